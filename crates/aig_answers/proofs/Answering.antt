@@ -1,5 +1,5 @@
 -- The query and the window of the file that was read.
-use Rattle.aig_base.proofs.Words.{◌≡◌, ◌≢◌, ℕ, ◌+◌, ◌≤◌, Bool, Option, Result, Ok, Err, List, [], sym, subst, arith, IfOk}
+use Rattle.aig_base.proofs.Words.{◌≡◌, ◌≢◌, ℕ, ◌+◌, ◌≤◌, Bool, Option, Result, Ok, Err, List, [], refl, sym, subst, arith, IfOk, OnOk}
 use Rattle.aig_base.specs.declared.logic.literal.Lit.{Lit}
 use Rattle.aig_circuit.specs.Circuit.{Circuit}
 use Rattle.aig_circuit.specs.View.{lists_circuit}
@@ -57,9 +57,15 @@ read_lists limit lists old new read = record {
   taken = read.taken;
 }
 
+-- what an answer shows where it is one
+pub ok_read : {A : Type 0} (B : Unit {0} → Type 0) (r : Result Unit AnswerError) → OnOk r A
+    → (A → verdict_by verdict_of r ≡ Accepted → B tt) → IfOk r B
+ok_read B (Ok done) holds shows = shows holds refl
+ok_read B (Err e) holds shows = tt
+
 -- a circuit was read of which something is asked
 module _ (limit k : ℕ) (c : Circuit) (old new : Option (List ℕ)) (read : IsReadAs (λ bytes. Accepts bytes limit) IsFileCircuit old new c) where
-  asked_file : {X : Type 0} (steps : ℕ) (Means : File → X → Type 0) (x : X) → (unrolled_size c steps ≤ limit) × (c.properties.bads ≢ []) → ((f : File) → Fits f limit → IsFileCircuit f c → Means f x)
+  pub asked_file : {X : Type 0} (steps : ℕ) (Means : File → X → Type 0) (x : X) → (unrolled_size c steps ≤ limit) × (c.properties.bads ≢ []) → ((f : File) → Fits f limit → IsFileCircuit f c → Means f x)
       → IsReadAs (IsAsked limit steps) Means old new x
   asked_file steps Means x asked means = record {
     file = read.file;

@@ -1,6 +1,5 @@
 mod Pairs
 mod Growing
-mod Asked
 mod Asking
 pub mod Verdicts
 pub mod Answering
@@ -31,3 +30,4 @@ mod Lasting
 mod Planning
 mod PlanInstances
 mod PlanRooms
+mod WordsOfKinds

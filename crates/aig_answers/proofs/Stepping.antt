@@ -1,18 +1,15 @@
 -- What is told of proofs of single steps.
-use Rattle.aig_base.proofs.Words.{◌≡◌, ◌≢◌, ℕ, zero, suc, ◌+◌, ◌-◌, ◌<◌, ◌≤◌, ◌^◌, Bool, Option, Some, List, [], ◌∷◌, length, Ok, Err, refl, sym, ap, ap₂, subst, ◌∙◌, arith, mul-le-mul_right, on_ok_weaker, set, IfOk, OnOk, slice_get}
+use Rattle.aig_base.proofs.Words.{◌≡◌, ℕ, zero, suc, ◌+◌, ◌<◌, Bool, Option, Some, List, [], ◌∷◌, length, Ok, Err, refl, sym, ap, ap₂, subst, ◌∙◌, arith, on_ok_weaker, set, IfOk, OnOk, slice_get}
 use Rattle.std.specs.Prelude.{Result}
 use Rattle.aig_base.specs.declared.logic.literal.Lit.{Lit}
 use Rattle.aig_answers.proofs.Answering.{AsksFiles, EncodesFiles}
-use Rattle.aig_answers.specs.Answers as answering
 use Rattle.aig_answers.specs.Answers.{IsAsked, IsCircuitOf, IsSaidBy, TellsOfCircuit, TellsOfProof, TellsOfStep, TellsOfWindow, circuit_window_verdict, without_names}
 use Rattle.aig_answers.specs.declared.circuits.CircuitQuery.{CircuitQuery}
 use Rattle.aig_answers.specs.declared.error.AnswerError.{AnswerError}
-use Rattle.aig_answers.specs.declared.error.AnswerError.TheVariants as answers
 use Rattle.aig_circuit.specs.Circuit.{Circuit}
 use Rattle.aig_circuit.specs.View.{lists_circuit}
 use Rattle.aig_circuit.specs.declared.view.CircuitLists.{CircuitLists}
 use Rattle.aig_encode.specs.Encoding.{IsQuery}
-use Rattle.aig_encode.specs.declared.error.EncodeError.TheVariants as encode
 use Rattle.aig_encode.specs.declared.query_clauses.Query.{Query}
 use Rattle.aig_format.specs.Circuit.{circuit_of}
 use Rattle.aig_format.specs.File.{File}
@@ -22,11 +19,9 @@ use Rattle.aig_reader.specs.Verdicts.{Accepted, verdict_by}
 use Rattle.aig_runs.specs.Encodes.{Encodes}
 use Rattle.aig_runs.specs.Queries.{IsSafeTo, query_clauses}
 use Rattle.aig_runs.specs.declared.window.Window.{Window}
-use Rattle.aig_unroll.specs.Places.{unrolled_size}
 use Rattle.aig_answers.proofs.TellingSafe.{asked_read}
-use Rattle.aig_answers.specs.Bases.{IsOfBases, ShowBases}
-use Rattle.aig_answers.specs.Safety.{IsOfStep}
-use Rattle.aig_answers.specs.Steps.{AreTaken, IsOwn, LeavesBase, LeavesStep, Show, ShowCircuit, ShowEach, Told, verdict_of}
+use Rattle.aig_answers.specs.Bases.{ShowBases}
+use Rattle.aig_answers.specs.Steps.{AreTaken, Show, ShowCircuit, ShowEach, Told, verdict_of}
 use Rattle.aig_answers.specs.declared.safety.error.StepsError.{StepsError}
 use Rattle.aig_answers.specs.declared.safety.error.StepsError.TheVariants as errors
 
@@ -48,42 +43,7 @@ get_set_here [] i x low = absurd (omega (arith, low))
 get_set_here (y ∷ ys) zero x low = refl
 get_set_here (y ∷ ys) (suc i) x low = get_set_here ys i x (omega (arith, low))
 
--- ---- room
-
--- where there is room for so many steps there is for fewer
-pub room_below : (c : Circuit) (n k limit : ℕ) → n ≤ k → unrolled_size c k ≤ limit → limit ≤ 2 ^ 31
-    → unrolled_size c n ≤ 2 ^ 31
-room_below c n k limit low room few =
-    let less = mul-le-mul_right (length c.nodes - 1 - length c.latchs) low in
-    omega (arith, less, room, few)
-
 -- ---- errors
-
-pub bases_own : (k count : ℕ) (e : StepsError) → count ≡ k + 1 → IsOfBases count e → IsOwn k e
-bases_own k count (errors.File e) all own = absurd own
-bases_own k count (errors.At n e) all own = (omega (arith, own.0, all), own.1)
-bases_own k count (errors.Step e) all own = absurd own
-
--- a proof of a window that isn't read is of one that isn't taken
-pub leaves_window : (e : AnswerError) → IsOfStep e → LeavesStep (Err (errors.Step e))
-    → answering.verdict_of e ≢ Accepted
-leaves_window (answers.Encode (encode.Read e)) own leaves is = absurd own
-leaves_window (answers.Encode encode.Memory) own leaves is = cc
-leaves_window (answers.Encode encode.TooLarge) own leaves is = cc
-leaves_window answers.NoBads own leaves is = cc
-leaves_window answers.TooLarge own leaves is = cc
-leaves_window (answers.Refutation e) own leaves is = absurd leaves
-
--- a proof of a step that isn't read is of a later one, or of one that isn't taken
-pub leaves_base : (n j : ℕ) (e : AnswerError) → IsOfStep e → LeavesBase j (Err (errors.At n e))
-    → (n ≤ j) × (n ≡ j → answering.verdict_of e ≢ Accepted)
-leaves_base n j (answers.Encode (encode.Read e)) own leaves = absurd own
-leaves_base n j (answers.Encode encode.Memory) own leaves = (leaves, λ here is. cc)
-leaves_base n j (answers.Encode encode.TooLarge) own leaves = (leaves, λ here is. cc)
-leaves_base n j answers.NoBads own leaves = (leaves, λ here is. cc)
-leaves_base n j answers.TooLarge own leaves = (leaves, λ here is. cc)
-leaves_base n j (answers.Refutation e) own leaves =
-    (omega (arith, leaves), λ here is. omega (arith, leaves, here))
 
 -- what proofs of steps show, one of which is refused
 pub bases_shown : {P Q : Type 0} (left : P → Option (List ℕ)) (left_of : Q → Option (List ℕ))
@@ -122,7 +82,7 @@ told_alike lists others extra more text answer same also told =
 module _ (encodes : EncodesFiles) (asks : AsksFiles) (one_encoding : EncodingsAreOne) where
   module _ (f : File) (limit : ℕ) (fits : Fits f limit) (optimize : Bool) where
     -- what is told of a circuit's query is told of its file's
-    step_told : (n : ℕ) (text : Option (List ℕ)) (answer : Result Unit AnswerError)
+    pub step_told : (n : ℕ) (text : Option (List ℕ)) (answer : Result Unit AnswerError)
         → TellsOfCircuit n optimize text (circuit_of f) answer
         → TellsOfStep n optimize text f answer
     step_told n text answer told =

@@ -1,18 +1,17 @@
 -- What is told of a joint circuit, from what was said of it and of a proof.
-use Rattle.aig_base.proofs.Words.{◌≡◌, ℕ, ◌≤◌, ◌==◌, nat_lt, if◌then◌else◌, Bool, true, false, List, length, Option, Result, Ok, Err, refl, sym, subst, arith, IfErr, ltb-false}
-use Rattle.std.proofs.lemmas.Result.{IfErr-weaker}
-use Rattle.aig_answers.proofs.Verdicts.{query_not_taken, query_of_step}
-use Rattle.aig_answers.specs.Answers.{IsOfInduction, IsOfQuery, IsOfStep, IsOfWindow, TellsOfCircuit, TellsOfCircuitWindow, verdict_of}
+use Rattle.aig_base.proofs.Words.{◌≡◌, ℕ, ◌≤◌, ◌==◌, nat_lt, if◌then◌else◌, Bool, true, false, List, length, Option, Result, Ok, Err, refl, sym, ap, subst, arith, IfErr, le-ltb, ltb-false}
+use Rattle.aig_answers.proofs.Verdicts.{query_not_taken}
+use Rattle.aig_answers.specs.Answers.{IsOfInduction, IsOfQuery, IsOfStep, IsOfWindow, IsSaidBy, TellsOfCircuit, TellsOfCircuitWindow, verdict_of}
 use Rattle.aig_answers.specs.declared.error.AnswerError.{AnswerError}
 use Rattle.aig_answers.specs.declared.error.AnswerError.TheVariants as answers
 use Rattle.aig_circuit.specs.Circuit.{Circuit}
 use Rattle.aig_encode.specs.declared.error.EncodeError.TheVariants as encode
 use Rattle.aig_reader.specs.Verdicts.{Accepted, NoBads, TooLarge, TooMany, Verdict, verdict_by}
-use Rattle.aig_refutation.specs.declared.error.RefutationError.{RefutationError}
 use Rattle.aig_runs.specs.Unrolled.{UnrolledCircuit, Unrolls}
 use Rattle.aig_unroll.specs.Places.{unrolled_size}
 use Rattle.aig_runs.specs.declared.window.Window.TheVariants.{Plain}
-use Rattle.aig_answers.specs.Certificates.{IsSaidOf, TellsOfQuery, TellsOfTwo, joint_verdict}
+use Rattle.aig_answers.specs.CircuitVerdicts.{circuit_verdict}
+use Rattle.aig_answers.specs.Certificates.{TellsOfQuery, TellsOfTwo, joint_verdict}
 use Rattle.aig_answers.specs.PairParts.{IsOfProof}
 
 -- the verdict on a joint circuit, by tests
@@ -21,7 +20,7 @@ joint_by many large empty =
     if many then TooMany else if large then TooLarge else if empty then NoBads else Accepted
 
 self_said : (many large empty : Bool)
-    → IsSaidOf (joint_by many large empty) (joint_by many large empty)
+    → IsSaidBy (joint_by many large empty) (joint_by many large empty)
 self_said true large empty = refl
 self_said false true empty = refl
 self_said false false true = refl
@@ -36,9 +35,9 @@ has_room_by false false false is = (refl, refl)
 
 module _ (limit k : ℕ) (m : Circuit) where
   -- the verdict itself is said of the circuit
-  pub equal_said : (v : Verdict) → v ≡ joint_verdict limit k m → IsSaidOf (joint_verdict limit k m) v
+  pub equal_said : (v : Verdict) → v ≡ joint_verdict limit k m → IsSaidBy (joint_verdict limit k m) v
   equal_said v is =
-      subst (IsSaidOf (joint_verdict limit k m)) (sym is)
+      subst (IsSaidBy (joint_verdict limit k m)) (sym is)
       (self_said (nat_lt limit (length m.nodes)) (nat_lt limit (unrolled_size m k))
       (length m.properties.bads == 0))
 
@@ -67,14 +66,6 @@ step_of_proof answers.NoBads own = absurd own
 step_of_proof answers.TooLarge own = absurd own
 step_of_proof (answers.Refutation e) own = tt
 
-pub proof_of_refutation : (r : Result (Unit {0}) AnswerError)
-    → IfErr r (λ e. (x : RefutationError) × (e ≡ answers.Refutation x)) → IfErr r IsOfProof
-proof_of_refutation r own = IfErr-weaker r _ IsOfProof (λ e is. rw is.1 tt) own
-
-pub step_of_query_proof : (r : Result (Unit {0}) AnswerError)
-    → IfErr r (λ e. (x : RefutationError) × (e ≡ answers.Refutation x)) → IfErr r IsOfStep
-step_of_query_proof r own = IfErr-weaker r _ IsOfStep (λ e is. rw is.1 tt) own
-
 -- the proof of a query is of no path
 pub induction_of_step : (e : AnswerError) → IsOfStep e → IsOfInduction e
 induction_of_step (answers.Encode e) own is = own cc
@@ -91,7 +82,7 @@ query_of_window (answers.Refutation e) own = absurd own
 
 -- memory ran out for a circuit that is taken
 said_of_proof : (of : Verdict) (e : AnswerError) → IsOfProof e → Accepted ≡ of
-    → IsSaidOf of (verdict_of e)
+    → IsSaidBy of (verdict_of e)
 said_of_proof of (answers.Encode (encode.Read e)) own is = absurd own
 said_of_proof of (answers.Encode encode.Memory) own is = sym is
 said_of_proof of (answers.Encode encode.TooLarge) own is = absurd own
@@ -100,17 +91,8 @@ said_of_proof of answers.TooLarge own is = absurd own
 said_of_proof of (answers.Refutation e) own is = is
 
 module _ (limit : ℕ) (optimize : Bool) (text : Option (List ℕ)) (m : Circuit) where
-  -- a circuit that is refused
-  pub refused_query : (k : ℕ) (e : AnswerError) → IsOfQuery e
-      → IsSaidOf (joint_verdict limit k m) (verdict_of e)
-      → IsOfStep e × TellsOfQuery limit k optimize text m (Err e)
-  refused_query k e own said = (
-    query_of_step e own,
-    record { said = said; shown = λ taken. absurd (query_not_taken e own taken) },
-  )
-
   pub refused_two : (e : AnswerError) → IsOfQuery e
-      → IsSaidOf (joint_verdict limit 1 m) (verdict_of e) → TellsOfTwo limit optimize text m (Err e)
+      → IsSaidBy (joint_verdict limit 1 m) (verdict_of e) → TellsOfTwo limit optimize text m (Err e)
   refused_two e own said =
       record { said = said; shown = λ taken. absurd (query_not_taken e own taken) }
 
@@ -123,16 +105,6 @@ module _ (limit : ℕ) (optimize : Bool) (text : Option (List ℕ)) (m : Circuit
   checked_query k (Err e) own taken shown =
       record { said = said_of_proof (joint_verdict limit k m) e own taken; shown = shown }
 
-  -- and one that was given its steps
-  pub based : (k : ℕ) (u : UnrolledCircuit) → Unrolls m k u → (r : Result (Unit {0}) AnswerError)
-      → IfErr r IsOfProof → Accepted ≡ joint_verdict limit k m
-      → (verdict_by verdict_of r ≡ Accepted → TellsOfCircuit u.steps optimize text u.circuit r)
-      → TellsOfQuery limit k optimize text m r
-  based k u steps r own taken shown =
-      checked_query k r own taken
-      (λ is. subst (λ (n : ℕ). TellsOfCircuit n optimize text m r) steps.steps
-      (subst (λ (d : Circuit). TellsOfCircuit u.steps optimize text d r) steps.circuit (shown is)))
-
   pub checked_two : (r : Result (Unit {0}) AnswerError) → IfErr r IsOfProof
       → Accepted ≡ joint_verdict limit 1 m
       → (verdict_by verdict_of r ≡ Accepted → TellsOfCircuitWindow Plain 0 optimize text m r)
@@ -140,3 +112,10 @@ module _ (limit : ℕ) (optimize : Bool) (text : Option (List ℕ)) (m : Circuit
   checked_two (Ok done) own taken shown = record { said = taken; shown = shown }
   checked_two (Err e) own taken shown =
       record { said = said_of_proof (joint_verdict limit 1 m) e own taken; shown = shown }
+
+-- a circuit within the limit is judged as a file's
+pub joint_alike : (limit k : ℕ) (c : Circuit) → length c.nodes ≤ limit
+    → joint_verdict limit k c ≡ circuit_verdict limit k c
+joint_alike limit k c few =
+    ap (λ many. joint_by many (nat_lt limit (unrolled_size c k)) (length c.properties.bads == 0))
+    (le-ltb limit (length c.nodes) few)

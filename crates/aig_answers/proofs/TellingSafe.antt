@@ -1,39 +1,29 @@
 -- What is told of a file that was read, from what was said of it and of proofs.
-use Rattle.aig_base.proofs.Words.{◌≡◌, ◌≢◌, ℕ, ◌+◌, ◌<◌, ◌≤◌, Bool, true, false, Option, List, length, Result, Ok, Err, refl, sym, ap, subst, ◌==◌, nat_lt, if◌then◌else◌, IfErr, IfOk, IsErrOf, [], on_ok_weaker}
+use Rattle.aig_base.proofs.Words.{◌≡◌, ℕ, ◌+◌, ◌<◌, ◌≤◌, Bool, true, false, Option, List, length, Result, Ok, Err, refl, sym, ap, subst, ◌==◌, nat_lt, if◌then◌else◌, IfErr, IfOk, IsErrOf, on_ok_weaker}
 use Rattle.std.specs.Prelude.{All, OnOk}
 use Rattle.aig_answers.proofs.Verdicts.{read_unrolled, bads_of}
-use Rattle.aig_answers.specs.Answers as answering
-use Rattle.aig_answers.specs.Answers.{IsAsked, IsCircuitOf, IsOfInduction, IsSaidBy, circuit_window_verdict, window_size, without_names}
-use Rattle.aig_answers.specs.declared.error.AnswerError.{AnswerError}
-use Rattle.aig_answers.specs.declared.error.AnswerError.TheVariants as answers
-use Rattle.aig_answers.specs.Asking as bounding
-use Rattle.aig_answers.specs.Asking.{IsOfCheck, IsSaidOfBads}
-use Rattle.aig_answers.specs.declared.bounded_checks.error.BoundedAnswerError.{BoundedAnswerError}
+use Rattle.aig_answers.specs.Answers.{IsAsked, IsCircuitOf, IsSaidBy, circuit_window_verdict, window_size, without_names}
 use Rattle.aig_answers.specs.declared.bounded_checks.error.BoundedAnswerError.TheVariants as bounded
 use Rattle.aig_bounded.specs.Question.{question_size}
 use Rattle.aig_bounded.specs.declared.error.BoundedError.TheVariants as questions
 use Rattle.aig_circuit.specs.Circuit.{Circuit, IsCircuit, IsClosed}
 use Rattle.aig_circuit.specs.Edges.{HasConstantInit}
-use Rattle.aig_circuit.specs.declared.edge.AigEdge.{AigEdge}
 use Rattle.aig_circuit.specs.View.{lists_circuit}
 use Rattle.aig_circuit.specs.declared.view.CircuitLists.{CircuitLists}
-use Rattle.aig_encode.specs.declared.error.EncodeError.TheVariants as encode
 use Rattle.aig_format.proofs.Circuits.{IsCircuit-of_file}
 use Rattle.aig_format.specs.Circuit.{circuit_of}
 use Rattle.aig_format.specs.File.{File}
 use Rattle.aig_format.specs.Fits.{Accepts, Fits}
 use Rattle.aig_format_laws.proofs.Closed.{IsClosed-of_file}
 use Rattle.aig_format_laws.proofs.Writable.{plain_starts}
-use Rattle.aig_reader.specs.Verdicts as reading
 use Rattle.aig_reader.specs.Verdicts.{Accepted, Crowded, IsOfFile, NoBads, Short, TooLarge, Verdict, verdict_by}
-use Rattle.aig_reader.proofs.Verdicts.{of_no_file}
 use Rattle.aig_reader.specs.Reading.{AreListsOf, IsReadAs}
 use Rattle.aig_runs.specs.CircuitQueries.{IsCircuitWitness}
 use Rattle.aig_runs.specs.Queries.{IsSafeTo}
 use Rattle.aig_runs.specs.Safety.{IsCircuitSafeAt}
 use Rattle.aig_runs.specs.declared.window.Window.{Window}
 use Rattle.aig_unroll.specs.Places.{unrolled_size}
-use Rattle.aig_answers.specs.Safety.{IsOfBase, IsOfStep, LeavesBase, LeavesStep, Shows, ShowsCircuit, TellsOfSize, verdict_of}
+use Rattle.aig_answers.specs.Safety.{Shows, ShowsCircuit, TellsOfSize, verdict_of}
 use Rattle.aig_answers.specs.declared.safety.error.SafetyError.{SafetyError}
 use Rattle.aig_answers.specs.declared.safety.error.SafetyError.TheVariants as errors
 
@@ -59,61 +49,11 @@ room_said form limit k c v is =
     (self_said (nat_lt limit (unrolled_size c (k + 1))) (length c.properties.bads == 0)
     (nat_lt limit (window_size form c k)))
 
--- a circuit that has room has a bad edge
-pub some_bads : (form : Window) (limit k : ℕ) (c : Circuit)
-    → circuit_window_verdict form limit k c ≡ Accepted → c.properties.bads ≢ []
-some_bads form limit k c room = (read_unrolled limit (k + 1) c _ (sym room)).1
-
--- what is said of a circuit that has one
-pub said_taken : (bads : List AigEdge) (v : Verdict) → bads ≢ [] → IsSaidOfBads bads v
-    → IsSaidBy Accepted v
-said_taken bads Accepted some said = refl
-said_taken bads Short some said = refl
-said_taken bads NoBads some said = absurd (some said)
-said_taken bads v some said = absurd said
-
 said_of_file : (v : Verdict) → IsSaidBy Accepted v → IsOfFile v
 said_of_file Short said = tt
 said_of_file v said = subst IsOfFile (sym said) tt
 
 -- ---- errors
-
-pub base_own : (e : BoundedAnswerError) → IsOfCheck e → IsSaidBy Accepted (bounding.verdict_of e)
-    → IsOfBase e
-base_own (bounded.Read e) own said =
-    absurd (of_no_file e (said_of_file (reading.verdict_of e) said))
-base_own bounded.NoBads own said = cc
-base_own (bounded.Question e) own said = tt
-base_own (bounded.Refutation e) own said = tt
-base_own (bounded.Solution e) own said = absurd own
-
-pub step_own : (e : AnswerError) → IsOfInduction e → IsSaidBy Accepted (answering.verdict_of e)
-    → IsOfStep e
-step_own (answers.Encode (encode.Read e)) own said =
-    absurd (of_no_file e (said_of_file (reading.verdict_of e) said))
-step_own (answers.Encode encode.Memory) own said = tt
-step_own (answers.Encode encode.TooLarge) own said = cc
-step_own answers.NoBads own said = cc
-step_own answers.TooLarge own said = cc
-step_own (answers.Refutation e) own said = tt
-
--- a proof that isn't read is of a file that isn't taken
-pub leaves_base : (e : BoundedAnswerError) → LeavesBase (Err (errors.Base e))
-    → bounding.verdict_of e ≢ Accepted
-leaves_base (bounded.Question e) leaves is = cc
-leaves_base (bounded.Read e) leaves is = absurd leaves
-leaves_base bounded.NoBads leaves is = absurd leaves
-leaves_base (bounded.Refutation e) leaves is = absurd leaves
-leaves_base (bounded.Solution e) leaves is = absurd leaves
-
-pub leaves_step : (e : AnswerError) → IsOfStep e → LeavesStep (Err (errors.Step e))
-    → answering.verdict_of e ≢ Accepted
-leaves_step (answers.Encode (encode.Read e)) own leaves is = absurd own
-leaves_step (answers.Encode encode.Memory) own leaves is = cc
-leaves_step (answers.Encode encode.TooLarge) own leaves is = cc
-leaves_step answers.NoBads own leaves is = cc
-leaves_step answers.TooLarge own leaves is = cc
-leaves_step (answers.Refutation e) own leaves is = absurd leaves
 
 -- ---- of a circuit and its file
 

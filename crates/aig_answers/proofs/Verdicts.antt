@@ -1,6 +1,5 @@
 -- What is said of a circuit, and of the file that it is of.
-use Rattle.aig_base.proofs.Words.{◌≡◌, ◌≢◌, ℕ, ◌+◌, ◌≤◌, Bool, true, false, Option, List, [], length, map, Result, Ok, Err, refl, sym, ap, subst, ◌∙◌, ◌==◌, nat_lt, if◌then◌else◌, IfErr, length-map, eqb-false, ltb-false}
-use Rattle.std.proofs.lemmas.Result.{IfErr-weaker}
+use Rattle.aig_base.proofs.Words.{◌≡◌, ◌≢◌, ℕ, ◌+◌, ◌≤◌, Bool, true, false, Option, List, [], length, map, refl, sym, ap, subst, ◌∙◌, ◌==◌, nat_lt, if◌then◌else◌, length-map, eqb-false, ltb-false}
 use Rattle.aig_circuit.specs.Circuit.{Circuit}
 use Rattle.aig_circuit.specs.declared.edge.AigEdge.{AigEdge}
 use Rattle.aig_circuit.specs.declared.node.AigLatch.{AigLatch}
@@ -17,8 +16,7 @@ use Rattle.aig_runs.specs.declared.window.Window.{Window}
 use Rattle.aig_encode.specs.declared.error.EncodeError.{EncodeError}
 use Rattle.aig_encode.specs.declared.error.EncodeError.TheVariants as encode
 use Rattle.aig_encode.specs.Encoding as encoding
-use Rattle.aig_refutation.specs.declared.error.RefutationError.{RefutationError}
-use Rattle.aig_answers.specs.Answers.{IsOfCircuitQuery, IsOfInduction, IsOfQuery, IsOfStep, IsOfWindow, IsSaidBy, asked_verdict, circuit_window_verdict, verdict_of, window_size, window_verdict}
+use Rattle.aig_answers.specs.Answers.{IsOfQuery, IsOfStep, IsSaidBy, asked_verdict, circuit_window_verdict, verdict_of, window_size, window_verdict}
 use Rattle.aig_answers.specs.CircuitVerdicts.{asks_verdict, circuit_verdict}
 use Rattle.aig_answers.specs.declared.error.AnswerError.{AnswerError}
 use Rattle.aig_answers.specs.declared.error.AnswerError.TheVariants as errors
@@ -162,15 +160,6 @@ module _ (limit k : ℕ) (old new : Option (List ℕ)) (failed : Bool) where
       judged (circuit_verdict limit k) (asked_verdict limit k) (asked_alike limit k) limit old new
       failed c v (circuit_of_file limit k c) read told said
 
--- ---- of a proof
-
--- a proof is checked only where the file is taken
-pub proof_taken : (r : Result Unit AnswerError)
-    → IfErr r (λ e. (x : RefutationError) × (e ≡ errors.Refutation x))
-    → verdict_by verdict_of r ≡ Accepted
-proof_taken (Ok u) own = refl
-proof_taken (Err e) own = ap verdict_of own.1
-
 -- ---- errors
 
 -- bytes that no answer was given of are not taken
@@ -185,30 +174,8 @@ query_not_taken errors.NoBads own is = cc
 query_not_taken errors.TooLarge own is = own
 query_not_taken (errors.Refutation e) own is = own
 
-pub window_not_taken : (e : AnswerError) → IsOfWindow e → verdict_of e ≢ Accepted
-window_not_taken (errors.Encode e) own is = not_taken e is
-window_not_taken errors.NoBads own is = cc
-window_not_taken errors.TooLarge own is = cc
-window_not_taken (errors.Refutation e) own is = own
-
 pub query_of_step : (e : AnswerError) → IsOfQuery e → IsOfStep e
 query_of_step (errors.Encode e) own = own
 query_of_step errors.NoBads own = tt
 query_of_step errors.TooLarge own = own
 query_of_step (errors.Refutation e) own = tt
-
-pub window_of_induction : (e : AnswerError) → IsOfWindow e → IsOfInduction e
-window_of_induction (errors.Encode e) own is = own cc
-window_of_induction errors.NoBads own is = cc
-window_of_induction errors.TooLarge own is = cc
-window_of_induction (errors.Refutation e) own is = own
-
-module _ (r : Result Unit AnswerError) (own : IfErr r (λ e. (x : RefutationError) × (e ≡ errors.Refutation x))) where
-  pub proof_of_step : IfErr r IsOfStep
-  proof_of_step = IfErr-weaker r _ IsOfStep (λ e is. rw is.1 tt) own
-
-  pub proof_of_induction : IfErr r IsOfInduction
-  proof_of_induction = IfErr-weaker r _ IsOfInduction (λ e is same. cc) own
-
-  pub proof_of_circuit : IfErr r IsOfCircuitQuery
-  proof_of_circuit = IfErr-weaker r _ IsOfCircuitQuery (λ e is. rw is.1 tt) own

@@ -202,12 +202,3 @@ IsOfWindow (errors.Refutation e) = ⊥
 -- of the window and its proof
 abbrev pub IsOfInduction : AnswerError → Type 0
 IsOfInduction e = e ≢ errors.Encode (encode.Read read.Open)
-
--- of a circuit's query and its proof
-abbrev pub IsOfCircuitQuery : AnswerError → Type 0
-IsOfCircuitQuery (errors.Encode (encode.Read e)) = ⊥
-IsOfCircuitQuery (errors.Encode encode.Memory) = Unit {0}
-IsOfCircuitQuery (errors.Encode encode.TooLarge) = Unit {0}
-IsOfCircuitQuery errors.NoBads = Unit {0}
-IsOfCircuitQuery errors.TooLarge = ⊥
-IsOfCircuitQuery (errors.Refutation e) = Unit {0}

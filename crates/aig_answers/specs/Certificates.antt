@@ -2,7 +2,7 @@
 -- What an answer about two files says of them, and what its errors say.
 use Rattle.std.specs.Prelude.{◌≡◌, ◌≢◌, ℕ, ◌==◌, nat_lt, if◌then◌else◌, Bool, List, length, Option, Result, Ok, Err}
 use Rattle.aig_answers.specs.Answers as answering
-use Rattle.aig_answers.specs.Answers.{AskWith, IsCircuitQuery, IsOfInduction, IsOfQuery, IsOfStep, IsOfWindow, TellsOfCircuit, TellsOfCircuitWindow, query_with}
+use Rattle.aig_answers.specs.Answers.{AskWith, IsCircuitQuery, IsOfInduction, IsOfQuery, IsOfStep, IsOfWindow, IsSaidBy, TellsOfCircuit, TellsOfCircuitWindow, query_with}
 use Rattle.aig_answers.specs.declared.error.AnswerError.{AnswerError}
 use Rattle.aig_answers.specs.declared.windows.WindowClauses.{WindowClauses}
 use Rattle.aig_runs.specs.declared.window.Window.TheVariants.{Plain}
@@ -16,7 +16,7 @@ use Rattle.aig_format.specs.File.{File}
 use Rattle.aig_join.specs.Constraints.{AreEqualMachinesBy}
 use Rattle.aig_join.specs.Files.{HasLinesOf, HaveSameFileCounts}
 use Rattle.aig_join.specs.declared.comparison.Comparison.{Comparison}
-use Rattle.aig_reader.specs.Verdicts.{Accepted, NoBads, Short, TooLarge, TooMany, Verdict, verdict_by}
+use Rattle.aig_reader.specs.Verdicts.{Accepted, NoBads, TooLarge, TooMany, Verdict, verdict_by}
 use Rattle.aig_runs.specs.Queries.{IsSafeTo}
 use Rattle.aig_unroll.specs.Places.{unrolled_size}
 use Rattle.aig_answers.specs.declared.certificates.error.CertificateError.{CertificateError}
@@ -74,23 +74,18 @@ joint_verdict limit k m =
     else if nat_lt limit (unrolled_size m k) then TooLarge
     else if length m.properties.bads == 0 then NoBads else Accepted
 
--- it is said of a circuit of this verdict: Short, where memory ran out, only of one that is taken
-abbrev pub IsSaidOf : Verdict → Verdict → Type 0
-IsSaidOf of Short = of ≡ Accepted
-IsSaidOf of v = v ≡ of
-
 -- What an answer to the query of a joint circuit tells: the verdict on the circuit, and of one that
 -- is taken what the text of the proof shows of the query's clauses, as every call makes them.
 pub record TellsOfQuery (limit k : ℕ) (optimize : Bool) (text : Option (List ℕ)) (m : Circuit)
     (answer : Result (Unit {0}) AnswerError) : Type 0 where
-  pub said : IsSaidOf (joint_verdict limit k m) (verdict_by answering.verdict_of answer)
+  pub said : IsSaidBy (joint_verdict limit k m) (verdict_by answering.verdict_of answer)
   pub shown : verdict_by answering.verdict_of answer ≡ Accepted
       → TellsOfCircuit k optimize text m answer
 
 -- and one to its plain window of two steps
 pub record TellsOfTwo (limit : ℕ) (optimize : Bool) (text : Option (List ℕ)) (m : Circuit)
     (answer : Result (Unit {0}) AnswerError) : Type 0 where
-  pub said : IsSaidOf (joint_verdict limit 1 m) (verdict_by answering.verdict_of answer)
+  pub said : IsSaidBy (joint_verdict limit 1 m) (verdict_by answering.verdict_of answer)
   pub shown : verdict_by answering.verdict_of answer ≡ Accepted
       → TellsOfCircuitWindow Plain 0 optimize text m answer
 
@@ -153,7 +148,7 @@ Obliges limit optimize f g (Ok o) =
 Obliges limit optimize f g (Err (errors.Pair e)) = IsRefusalOf Certificate f g e
 Obliges limit optimize f g (Err (errors.Query e)) =
     (m : Circuit) × IsJointOf Certificate f g m
-    × IsSaidOf (joint_verdict limit 0 m) (answering.verdict_of e)
+    × IsSaidBy (joint_verdict limit 0 m) (answering.verdict_of e)
 Obliges limit optimize f g (Err (errors.Window e)) =
     (m : Circuit) × IsJointOf Certificate f g m
-    × IsSaidOf (joint_verdict limit 1 m) (answering.verdict_of e)
+    × IsSaidBy (joint_verdict limit 1 m) (answering.verdict_of e)

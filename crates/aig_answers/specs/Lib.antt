@@ -14,3 +14,4 @@ pub mod Steps
 pub mod Equality
 pub mod Liveness
 pub mod Plans
+pub mod PlanWords

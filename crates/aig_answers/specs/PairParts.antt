@@ -3,7 +3,7 @@
 use Rattle.std.specs.Prelude.{ℕ, Bool, List, ◌++◌, Option, Result, Ok, Err}
 use Rattle.aig_base.specs.Formula.{IsSatisfiable, clauses_in}
 use Rattle.aig_base.specs.declared.logic.literal.Lit.{Lit}
-use Rattle.aig_answers.specs.Answers.{IsOfQuery, IsOfStep, verdict_of}
+use Rattle.aig_answers.specs.Answers.{IsOfQuery, IsOfStep, IsSaidBy, verdict_of}
 use Rattle.aig_answers.specs.declared.error.AnswerError.{AnswerError}
 use Rattle.aig_answers.specs.declared.error.AnswerError.TheVariants as answers
 use Rattle.aig_encode.specs.declared.error.EncodeError.TheVariants as encode
@@ -17,7 +17,7 @@ use Rattle.aig_format.specs.Circuit.{circuit_of}
 use Rattle.aig_format.specs.File.{File}
 use Rattle.aig_format.specs.Writable.{FitsFormat}
 use Rattle.aig_join.specs.Certificate.{HasLeavesOf, certified}
-use Rattle.aig_answers.specs.Certificates.{AreObligationsOf, IsSaidOf, TellsOfQuery, TellsOfTwo, joint_verdict}
+use Rattle.aig_answers.specs.Certificates.{AreObligationsOf, TellsOfQuery, TellsOfTwo, joint_verdict}
 use Rattle.aig_answers.specs.declared.certificates.error.CertificateError.{CertificateError}
 use Rattle.aig_answers.specs.declared.certificates.error.CertificateError.TheVariants as errors
 use Rattle.aig_answers.specs.declared.certificates.asking.Obligations.{Obligations}
@@ -83,6 +83,6 @@ abbrev pub AsksBoth : ℕ → Bool → Circuit → Result Obligations Certificat
 AsksBoth limit optimize m (Ok o) = AreObligationsOf optimize m o
 AsksBoth limit optimize m (Err (errors.Pair e)) = ⊥
 AsksBoth limit optimize m (Err (errors.Query e)) =
-    IsOfQuery e × IsSaidOf (joint_verdict limit 0 m) (verdict_of e)
+    IsOfQuery e × IsSaidBy (joint_verdict limit 0 m) (verdict_of e)
 AsksBoth limit optimize m (Err (errors.Window e)) =
-    IsOfQuery e × IsSaidOf (joint_verdict limit 1 m) (verdict_of e)
+    IsOfQuery e × IsSaidBy (joint_verdict limit 1 m) (verdict_of e)

@@ -1,22 +1,14 @@
 //! Whether something is asked of a circuit, and whether there is room for it.
 
-ghost use Rattle.std.specs.Prelude.{◌≡◌, ◌≤◌, ◌↔◌, IfErr, IsTrue, length};
+ghost use Rattle.std.specs.Prelude.{◌≡◌, IfErr, length};
 ghost use Rattle.aig_answers.specs.Answers.{IsOfQuery, verdict_of};
 ghost use Rattle.aig_answers.specs.CircuitVerdicts.{asks_verdict};
 ghost use Rattle.aig_reader.specs.Verdicts.{verdict_by};
-ghost use Rattle.aig_unroll.specs.Places.{unrolled_size};
 
 use crate::error::AnswerError;
-use aig::{Aig, AigEdge, AigLatch, AigNode};
+use aig::{AigEdge, AigLatch, AigNode};
 use aig_encode::EncodeError;
 use aig_unroll::is_size_within;
-
-/// Whether a circuit with `k` further steps has at most `limit` nodes, by the bound that `unroll_to` keeps.
-pub(crate) fn is_within(circuit: &Aig, k: usize, limit: usize) -> bool
-    ensures { IsTrue result ↔ (unrolled_size circuit.now k ≤ limit) }
-{
-    is_size_within(circuit.num_nodes(), circuit.latchs().len(), k, limit)
-}
 
 /// Refuses a circuit of these lists whose `k` further steps may pass the limit, and one without bad edges, as nothing is asked of it.
 pub(crate) fn check_asks(

@@ -42,7 +42,7 @@ pub fn query_parts(
     Ok(ClauseParts { needed, extra })
 }
 
-/// What the clauses of `plain_window` are written from. It takes a byte a node. The one error is refused memory.
+/// What the clauses of a plain window are written from. It takes a byte a node. The one error is refused memory.
 pub fn window_parts(
     alloc: Global,
     circuit: &CircuitView<'_>,

@@ -14,7 +14,6 @@ mod error;
 mod laws;
 mod liveness;
 mod plans;
-mod refuting;
 mod safety;
 mod step;
 mod unrolled;
@@ -30,7 +29,7 @@ pub use certificates::{
     CertificateError, MiterError, Obligations, check_certified, check_equal, check_equal_by,
     check_step_of, obligations_of,
 };
-pub use circuits::{CircuitQuery, check_query_of, query_of};
+pub use circuits::CircuitQuery;
 pub use clause_parts::{ClauseParts, query_parts, window_parts};
 pub use equality::{EqualityError, check_always_equal};
 pub use error::AnswerError;
@@ -40,12 +39,9 @@ pub use plans::{
     Ask, PlanError, Question, Refused, Why, check_circuit, check_question, clauses_of,
     command_plans_cover, covering_plans_are_safe, question_clauses_are_one, refuted_asks_hold,
 };
-pub use refuting::refute;
 pub use safety::{
     SafetyError, StepsError, check_safe, check_safe_by_steps, check_safe_by_steps_of, check_safe_of,
 };
 pub use step::{check_step, read_query, read_unrolled};
-pub use unrolled::{plain_window, unrolled_query};
-pub use windows::{
-    UnrolledWindow, WindowClauses, check_window, check_window_of, check_window_room, read_window,
-};
+pub use unrolled::unrolled_query;
+pub use windows::{UnrolledWindow, WindowClauses, check_window, check_window_room, read_window};

@@ -10,17 +10,18 @@ ghost use Rattle.aig_reader.specs.Reading.{IsReadAs};
 ghost use Rattle.aig_reader.specs.Verdicts.{Accepted, Judges, verdict_by};
 
 use crate::asks::check_asks;
+use crate::certificates::check_step_of;
 use crate::circuits::{CircuitQuery, make_query};
 use crate::error::AnswerError;
-use crate::refuting::refute;
 use aig::Aig;
 use aig_base::Source;
 use aig_circuit::CircuitView;
 use aig_encode::{Encoded, Query};
+use aig_reader::read;
 use aig_refutation::RefutationError;
 use aig_runs::{
     Unrolled, circuit_witnesses_are_file_witnesses, clauses_are_file_runs, encodings_are_one,
-    refuted_queries_have_no_witness,
+    safe_circuits_are_safe_machines,
 };
 use std::alloc::Global;
 
@@ -85,7 +86,7 @@ pub fn read_unrolled<R: Source>(
         (R.failed r.new) (verdict_by verdict_of result) }
     ensures own { IfErr result IsOfQuery }
 {
-    let circuit = aig_reader::read(alloc, r, limit)?;
+    let circuit = read(alloc, r, limit)?;
     let view = CircuitView::new(&circuit);
     check_asks(view.nodes(), view.latchs(), view.bads(), limit, k)?;
     Ok(Unrolled::new(circuit, k)?)
@@ -123,16 +124,10 @@ pub fn check_step<R: Source, P: Source>(
     ensures proof_stream { IsErrOf result (AnswerError.Refutation RefutationError.Stream)
         → IsTrue (P.failed proof.new) }
 {
-    refuted_queries_have_no_witness();
+    clauses_are_file_runs();
+    circuit_witnesses_are_file_witnesses();
+    safe_circuits_are_safe_machines();
     encodings_are_one();
-    let Query { encoded, extra } = read_query(alloc, r, limit, k, optimize)?;
-    let Encoded {
-        circuit,
-        unrolled,
-        clauses,
-    } = encoded;
-    // The clauses are all that the proof is held against.
-    drop(circuit);
-    drop(unrolled);
-    refute(alloc, &clauses, &extra, proof)
+    let circuit = read(alloc, r, limit)?;
+    check_step_of(alloc, circuit, limit, k, optimize, proof)
 }

@@ -1,15 +1,11 @@
 //! Clauses of circuits with further steps, whether they were read, built or changed.
 
-ghost use Rattle.std.specs.Prelude.{◌+◌, ◌<◌, ◌≤◌, ◌^◌, IfOk, length};
+ghost use Rattle.std.specs.Prelude.{◌≤◌, ◌^◌, IfOk, length};
 ghost use Rattle.aig_answers.specs.Answers.{IsCircuitQuery, query_with};
-ghost use Rattle.aig_base.specs.Clauses.{AreRelations};
-ghost use Rattle.aig_runs.specs.WindowClauses.{AsksWindow};
-ghost use Rattle.aig_runs.specs.declared.window.Window.TheVariants.{Plain};
 ghost use Rattle.aig_unroll.specs.Unroll.{UnrollsTo};
 
-use crate::clauses::induction_between;
 use crate::windows::WindowClauses;
-use aig_base::{DagCnf, MemoryError};
+use aig_base::MemoryError;
 use aig_circuit::CircuitView;
 use aig_cnf::encode;
 use aig_runs::{Unrolled, circuit_queries_ask, query_clauses};
@@ -54,32 +50,4 @@ pub fn unrolled_query(
 {
     let circuit = asked.circuit();
     query_between(alloc, &circuit, asked.steps(), &asked.unrolled(), optimize)
-}
-
-/// Tells that clauses that are given to variables are of those that are there.
-fn tell_relations(clauses: &DagCnf)
-    ensures { AreRelations clauses.now }
-{
-    let _variables = clauses.num_vars();
-}
-
-/// The clauses of a plain window of a circuit, as `check_window` makes them, from the circuit with `k + 1` further steps. The one error is
-/// refused memory.
-pub fn plain_window(
-    alloc: Global,
-    circuit: &CircuitView<'_>,
-    k: usize,
-    unrolled: &CircuitView<'_>,
-    optimize: bool,
-) -> Result<WindowClauses, MemoryError>
-    requires steps { k < 2 ^ 32 }
-    requires few { length unrolled.now.nodes ≤ 2 ^ 31 }
-    requires unrolls { UnrollsTo circuit.now (k + 1) unrolled.now }
-    ensures { IfOk result
-        (λ made. AsksWindow Plain circuit.now k optimize made.clauses made.extra) }
-{
-    let clauses = encode(alloc, unrolled, optimize)?;
-    tell_relations(&clauses);
-    let extra = induction_between(alloc, circuit, k, unrolled)?;
-    Ok(WindowClauses { clauses, extra })
 }

@@ -1,7 +1,7 @@
 //! Windows of steps that keep a machine safe.
 
 ghost use Rattle.std.specs.Prelude.{◌≡◌, ◌≢◌, ◌+◌, ◌*◌, ◌≤◌, ◌<◌, ◌^◌, ◌↔◌, ◌++◌, [], IfErr, IfOk, IsErrOf, IsTrue, OnOk, false, length, map, replicate, ℕ};
-ghost use Rattle.aig_answers.specs.Answers.{IsAsked, IsCircuitOf, IsOfInduction, IsOfWindow, IsSaidBy, IsUnrolledWindow, TellsOfCircuitWindow, TellsOfWindow, circuit_window_verdict, verdict_of, window_size, window_verdict};
+ghost use Rattle.aig_answers.specs.Answers.{IsAsked, IsOfInduction, IsOfWindow, IsSaidBy, IsUnrolledWindow, TellsOfWindow, circuit_window_verdict, verdict_of, window_size, window_verdict};
 ghost use Rattle.aig_runs.specs.Induction.{IsKInductive};
 ghost use Rattle.aig_runs.specs.WindowClauses.{AsksWindow, count_free, states_clauses, watched, window_clauses};
 ghost use Rattle.aig_circuit.specs.Circuit.{Circuit, IsCircuit, latch_leaves};
@@ -10,21 +10,19 @@ ghost use Rattle.aig_circuit.specs.View.{lists_circuit};
 ghost use Rattle.aig_reader.specs.Reading.{IsReadAs};
 ghost use Rattle.aig_reader.specs.Verdicts.{Accepted, Judges, verdict_by};
 ghost use Rattle.aig_format.specs.Circuit.{circuit_of};
-ghost use Rattle.aig_format.specs.File.{File};
-ghost use Rattle.aig_format.specs.Fits.{Fits};
 ghost use Rattle.aig_unroll.specs.Unroll.{UnrollsTo};
 
 use crate::asks::check_asks;
 use crate::clauses::induction_between;
 use crate::distinct::{pairs_of, push_distinct};
 use crate::error::AnswerError;
-use crate::refuting::refute;
+use crate::plans::{Ask, Question, answer, check_last};
 use aig_base::{DagCnf, LitVvec, MemoryError, Source};
 use aig_circuit::{AigEdge, AigLatch, CircuitLists, CircuitView};
 use aig_cnf::{NeededGates, clauses_are_one, clauses_fix_roots, encode, find_needed};
 use aig_reader::read;
 use aig_refutation::RefutationError;
-use aig_runs::{Window, refuted_windows_are_inductive, windows_are_one};
+use aig_runs::{Window, windows_are_one};
 use aig_unroll::{is_size_within, unroll_to};
 use std::alloc::Global;
 
@@ -350,45 +348,12 @@ pub fn check_window<R: Source, P: Source>(
     ensures proof_stream { IsErrOf result (AnswerError.Refutation RefutationError.Stream)
         → IsTrue (P.failed proof.new) }
 {
-    refuted_windows_are_inductive();
     windows_are_one();
-    let window = read_window(alloc, r, limit, k, optimize, form)?;
-    let asked = list_window(alloc, window, optimize)?;
-    refute(alloc, &asked.clauses, &asked.extra, proof)
-}
-
-/// Checks a proof, in the LRAT or the DRAT format, that the window clauses of a circuit can't be satisfied, as `check_window` does
-/// with those of a file: then no window of `k + 2` steps of a file whose circuit it is, names aside, reaches a bad state first at its
-/// end. The circuit is dropped before the proof is read.
-pub fn check_window_of<P: Source>(
-    alloc: Global,
-    circuit: CircuitLists,
-    limit: usize,
-    k: usize,
-    optimize: bool,
-    form: Window,
-    proof: &mut P,
-) -> Result<(), AnswerError>
-    requires few { limit ≤ 2 ^ 31 }
-    requires steps { k < 2 ^ 32 }
-    requires circuit { IsCircuit (lists_circuit circuit) }
-    ensures answer { OnOk result ((f : File) (bound : ℕ) → Fits f bound
-        → IsCircuitOf f (lists_circuit circuit) → IsKInductive form f k) }
-    // Which refusals come before the proof is read, and when.
-    ensures said { IsSaidBy (circuit_window_verdict form limit k (lists_circuit circuit))
-        (verdict_by verdict_of result) }
-    ensures own { IfErr result IsOfInduction }
-    ensures unread { verdict_by verdict_of result ≢ Accepted → proof.new ≡ proof.old }
-    // Where the proof is looked at, the answer is what its text shows of the window's clauses.
-    ensures shown { verdict_by verdict_of result ≡ Accepted → TellsOfCircuitWindow form k optimize
-        (P.left proof.old) (lists_circuit circuit) result }
-    // Stream only where a read failed in this call.
-    ensures proof_stream { IsErrOf result (AnswerError.Refutation RefutationError.Stream)
-        → IsTrue (P.failed proof.new) }
-{
-    refuted_windows_are_inductive();
-    windows_are_one();
-    let window = ask_window(alloc, circuit, limit, k, optimize, form)?;
-    let asked = list_window(alloc, window, optimize)?;
-    refute(alloc, &asked.clauses, &asked.extra, proof)
+    let circuit = read(alloc, r, limit)?;
+    check_window_room(&CircuitView::new(&circuit), limit, k, form)?;
+    let question = Question {
+        ask: Ask::Window(k, form),
+        optimize,
+    };
+    answer(check_last(alloc, circuit, limit, question, proof))
 }

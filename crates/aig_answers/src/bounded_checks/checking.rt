@@ -1,7 +1,6 @@
 //! Proofs of bounded checks.
 
-ghost use Rattle.std.specs.Prelude.{◌≡◌, ◌≢◌, ◌+◌, ◌<◌, ◌≤◌, ◌^◌, ◌++◌, ◌⊎◌, ℕ, All, IfErr, IfOk, IsErrOf, IsTrue, OnOk};
-ghost use Rattle.aig_base.specs.Formula.{IsSatisfiable, clauses_in};
+ghost use Rattle.std.specs.Prelude.{◌≡◌, ◌≢◌, ◌<◌, ◌≤◌, ◌^◌, ℕ, All, IfErr, IfOk, IsErrOf, IsTrue, OnOk};
 ghost use Rattle.aig_circuit.specs.View.{lists_circuit};
 ghost use Rattle.aig_circuit.specs.Circuit.{IsCircuit, IsClosed};
 ghost use Rattle.aig_circuit.specs.Edges.{HasConstantInit};
@@ -10,38 +9,17 @@ ghost use Rattle.aig_reader.specs.Verdicts.{Accepted, Judges, verdict_by};
 ghost use Rattle.aig_runs.specs.Queries.{IsSafeTo};
 ghost use Rattle.aig_runs.specs.Safety.{IsCircuitSafeAt};
 ghost use Rattle.aig_bounded.specs.Question.{question_size};
-ghost use Rattle.aig_answers.specs.declared.bounded_checks.error.BoundedAnswerError.TheVariants as errors;
-ghost use Rattle.aig_answers.specs.Asking.{AnswersCircuit, AnswersProof, IsAskedWithin, IsOfCheck, IsSaidOfBads, IsSettled, TellsOfProof, TellsOfSize, bounded_verdict, verdict_of};
+ghost use Rattle.aig_answers.specs.Asking.{AnswersCircuit, AnswersProof, IsAskedWithin, IsOfCheck, IsSaidOfBads, TellsOfSize, bounded_verdict, verdict_of};
 
-use crate::bounded_checks::clauses::{BoundedClauses, ask_lists, bounded};
 use crate::bounded_checks::error::BoundedAnswerError;
-use crate::bounded_checks::laws::{refuted_circuit_questions_are_safe, refuted_questions_are_safe};
+use crate::plans::{Ask, Question, bounded_answer, check_last};
 use aig_base::Source;
 use aig_bounded::BoundedError;
 use aig_circuit::CircuitLists;
-use aig_refutation::{RefutationError, check_refutation};
+use aig_reader::read;
+use aig_refutation::RefutationError;
+use aig_runs::{safe_circuits_are_safe_machines, safe_steps_are_safe};
 use std::alloc::Global;
-
-/// Checks a proof that the clauses of a question can't be satisfied, unless the question is settled. The one error is that of
-/// the proof.
-fn refute<P: Source>(
-    alloc: Global,
-    made: &BoundedClauses,
-    proof: &mut P,
-) -> Result<(), BoundedAnswerError>
-    ensures refuted { OnOk result (IsSettled made.now
-        ⊎ (¬ IsSatisfiable (clauses_in made.now.clauses ++ made.now.extra))) }
-    ensures told { TellsOfProof P.left made.now proof.old proof.new result }
-    ensures own { IfErr result (λ e. (x : RefutationError) × (e ≡ errors.Refutation x)) }
-    ensures stream { IsErrOf result (BoundedAnswerError.Refutation RefutationError.Stream)
-        → IsTrue (P.failed proof.new) }
-{
-    if made.is_settled() {
-        return Ok(());
-    }
-    check_refutation(alloc, &made.clauses, &made.extra, proof)?;
-    Ok(())
-}
 
 /// Reads a circuit from the bytes of an AIGER file, and checks a proof, in the LRAT or the DRAT format, that the clauses of
 /// its question for the steps 0 to `k` can't be satisfied: then no run from an initial state reaches a bad state up to that
@@ -80,35 +58,36 @@ pub fn check_bounded<R: Source, P: Source>(
         → IsReadAs (IsAskedWithin limit) (AnswersProof P.left k optimize proof.old proof.new)
         (R.left r.old) (R.left r.new) result }
 {
-    refuted_questions_are_safe();
-    let made = bounded(alloc, r, limit, k, optimize)?;
-    refute(alloc, &made, proof)
+    safe_circuits_are_safe_machines();
+    safe_steps_are_safe();
+    let circuit = read(alloc, r, limit)?;
+    check_bounded_of(alloc, circuit, limit, k, optimize, proof)
 }
 
 /// Checks a proof as `check_bounded` does, of a circuit: each of its leaves is an input or a latch's, and each initial edge is
-/// constant.
+/// constant. The circuit is dropped before the proof is read.
 pub fn check_bounded_of<P: Source>(
     alloc: Global,
-    circuit: &CircuitLists,
+    circuit: CircuitLists,
     limit: usize,
     k: usize,
     optimize: bool,
     proof: &mut P,
 ) -> Result<(), BoundedAnswerError>
-    requires circuit { IsCircuit (lists_circuit circuit.now) }
-    requires closed { IsClosed (lists_circuit circuit.now) }
-    requires starts { All HasConstantInit circuit.now.latchs.items }
+    requires circuit { IsCircuit (lists_circuit circuit) }
+    requires closed { IsClosed (lists_circuit circuit) }
+    requires starts { All HasConstantInit circuit.latchs.items }
     requires some { 1 ≤ limit }
     requires few { limit ≤ 2 ^ 31 }
     // No bad edge of the circuit is reached at a step up to k.
     ensures answer { OnOk result
-        ((n : ℕ) → n ≤ k → IsCircuitSafeAt (lists_circuit circuit.now) n) }
+        ((n : ℕ) → n ≤ k → IsCircuitSafeAt (lists_circuit circuit) n) }
     // A circuit without a bad edge is refused, and no other but for memory or the size of its question.
-    ensures said { IsSaidOfBads circuit.now.properties.bads.items (verdict_by verdict_of result) }
+    ensures said { IsSaidOfBads circuit.properties.bads.items (verdict_by verdict_of result) }
     ensures own { IfErr result IsOfCheck }
     // A question is too large only where its bound passes the limit.
     ensures large { IsErrOf result (BoundedAnswerError.Question BoundedError.TooLarge)
-        → limit < question_size (lists_circuit circuit.now) k }
+        → limit < question_size (lists_circuit circuit) k }
     // The proof is read only where the circuit is taken.
     ensures unread { verdict_by verdict_of result ≢ Accepted → proof.new ≡ proof.old }
     // Stream only where a read of the proof failed in this call.
@@ -116,9 +95,14 @@ pub fn check_bounded_of<P: Source>(
         → IsTrue (P.failed proof.new) }
     // Where the circuit is taken, the result is told of its question as by `check_bounded`.
     ensures shown { verdict_by verdict_of result ≡ Accepted → AnswersCircuit P.left k optimize
-        proof.old proof.new (lists_circuit circuit.now) result }
+        proof.old proof.new (lists_circuit circuit) result }
 {
-    refuted_circuit_questions_are_safe();
-    let made = ask_lists(alloc, circuit, limit, k, optimize)?;
-    refute(alloc, &made, proof)
+    if circuit.properties.bads.is_empty() {
+        return Err(BoundedAnswerError::NoBads);
+    }
+    let question = Question {
+        ask: Ask::UpTo(k),
+        optimize,
+    };
+    bounded_answer(check_last(alloc, circuit, limit, question, proof))
 }

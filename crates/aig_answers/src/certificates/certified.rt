@@ -1,74 +1,27 @@
 //! Whether a certificate shows that a file's machine is safe.
 
-ghost use Rattle.std.specs.Prelude.{◌≡◌, ◌≢◌, ◌^◌, ◌≤◌, IfErr, IsErrOf, IsTrue, OnOk, length};
-ghost use Rattle.aig_answers.specs.Answers.{IsOfStep, TellsOfCircuit, verdict_of};
+ghost use Rattle.std.specs.Prelude.{◌≡◌, ◌^◌, ◌≤◌, IsErrOf, IsTrue};
 ghost use Rattle.aig_answers.specs.declared.error.AnswerError.TheVariants as answers;
-ghost use Rattle.aig_answers.specs.Certificates.{Certifies, IsOwn, LeavesQuery, LeavesWindow, TellsOfTwo, first_verdict, second_verdict};
-ghost use Rattle.aig_answers.specs.PairParts.{HasNoWindow, HoldsBoth, IsOfProof};
+ghost use Rattle.aig_answers.specs.Certificates.{Certifies, IsOwn, LeavesQuery, LeavesWindow, first_verdict, second_verdict};
+ghost use Rattle.aig_answers.specs.PairParts.{HoldsBoth};
 ghost use Rattle.aig_answers.specs.declared.certificates.error.CertificateError.TheVariants as errors;
 ghost use Rattle.aig_circuit.specs.Circuit.{IsCircuit};
 ghost use Rattle.aig_circuit.specs.View.{lists_circuit};
 ghost use Rattle.aig_edits.specs.Pairs.{ReadsPair};
-ghost use Rattle.aig_reader.specs.Verdicts.{Accepted, verdict_by};
-ghost use Rattle.aig_runs.specs.Safety.{IsCircuitSafeAt};
 
 use crate::certificates::error::CertificateError;
-use crate::certificates::joint::{ask_window, unroll_joint};
-use crate::{AnswerError, circuit_clauses_are_one, refute, unrolled_query};
+use crate::certificates::joint::check_room;
+use crate::plans::{Ask, Question, check_last, check_question};
+use crate::{AnswerError, Window};
 use aig_base::Source;
-use aig_circuit::CircuitLists;
+use aig_circuit::{CircuitLists, CircuitView};
+use aig_cnf::clauses_are_one;
 use aig_edits::{Pairing, read_joint};
 use aig_refutation::RefutationError;
 use aig_runs::{
-    Unrolled, inductive_windows_are_safe, refuted_circuit_queries_have_no_witness,
-    refuted_windows_are_inductive, safe_steps_are_safe,
+    inductive_windows_are_safe, refuted_windows_are_inductive, safe_steps_are_safe, windows_are_one,
 };
 use std::alloc::Global;
-
-/// Checks a proof for the query of a joint circuit, which was given its steps.
-fn check_base<P: Source>(
-    alloc: Global,
-    asked: &Unrolled,
-    optimize: bool,
-    base: &mut P,
-) -> Result<(), AnswerError>
-    requires { length asked.now.unrolled.nodes ≤ 2 ^ 31 }
-    ensures safe { OnOk result (IsCircuitSafeAt asked.now.circuit asked.now.steps) }
-    ensures own { IfErr result IsOfProof }
-    ensures unread { verdict_by verdict_of result ≢ Accepted → base.new ≡ base.old }
-    ensures shown { verdict_by verdict_of result ≡ Accepted
-        → TellsOfCircuit asked.now.steps optimize (P.left base.old) asked.now.circuit result }
-    ensures stream { IsErrOf result (AnswerError.Refutation RefutationError.Stream)
-        → IsTrue (P.failed base.new) }
-{
-    refuted_circuit_queries_have_no_witness();
-    circuit_clauses_are_one();
-    let made = unrolled_query(alloc, asked, optimize)?;
-    refute(alloc, &made.clauses, &made.extra, base)
-}
-
-/// Checks a proof for the plain window of two steps of a joint circuit.
-fn check_step<Q: Source>(
-    alloc: Global,
-    asked: Unrolled,
-    limit: usize,
-    optimize: bool,
-    step: &mut Q,
-) -> Result<(), AnswerError>
-    requires { limit ≤ 2 ^ 31 }
-    ensures none { OnOk result (HasNoWindow optimize asked.circuit) }
-    ensures own { IfErr result IsOfStep }
-    ensures tells { TellsOfTwo limit optimize (Q.left step.old) asked.circuit result }
-    ensures unread { verdict_by verdict_of result ≢ Accepted → step.new ≡ step.old }
-    ensures stream { IsErrOf result (AnswerError.Refutation RefutationError.Stream)
-        → IsTrue (Q.failed step.new) }
-{
-    circuit_clauses_are_one();
-    let made = ask_window(alloc, &asked.circuit(), limit, optimize)?;
-    // The clauses are all that the proof is held against.
-    drop(asked);
-    refute(alloc, &made.clauses, &made.extra, step)
-}
 
 /// Checks proofs for the query of a joint circuit for step 0 and for its window of two steps.
 pub(crate) fn check_both<P: Source, Q: Source>(
@@ -90,16 +43,29 @@ pub(crate) fn check_both<P: Source, Q: Source>(
     ensures step_stream { IsErrOf result (errors.Window (answers.Refutation RefutationError.Stream))
         → IsTrue (Q.failed step.new) }
 {
-    let asked = match unroll_joint(joint, limit, 0) {
-        Ok(asked) => asked,
-        Err(error) => return Err(CertificateError::Query(error)),
-    };
-    if let Err(error) = check_base(alloc, &asked, optimize, base) {
+    clauses_are_one();
+    windows_are_one();
+    let view = CircuitView::new(&joint);
+    if let Err(error) = check_room(&view, limit, 0) {
         return Err(CertificateError::Query(error));
     }
-    match check_step(alloc, asked, limit, optimize, step) {
+    let first = Question {
+        ask: Ask::Step(0),
+        optimize,
+    };
+    if let Err(why) = check_question(alloc, &view, limit, first, base) {
+        return Err(CertificateError::Query(AnswerError::from(why)));
+    }
+    if let Err(error) = check_room(&view, limit, 1) {
+        return Err(CertificateError::Window(error));
+    }
+    let last = Question {
+        ask: Ask::Window(0, Window::Plain),
+        optimize,
+    };
+    match check_last(alloc, joint, limit, last, step) {
         Ok(()) => Ok(()),
-        Err(error) => Err(CertificateError::Window(error)),
+        Err(why) => Err(CertificateError::Window(AnswerError::from(why))),
     }
 }
 

@@ -11,14 +11,15 @@ ghost use Rattle.aig_edits.specs.Pairs.{ReadsPair};
 ghost use Rattle.aig_reader.specs.Verdicts.{Accepted, verdict_by};
 ghost use Rattle.aig_runs.specs.Safety.{IsCircuitSafeAt};
 
+use crate::AnswerError;
 use crate::certificates::error::CertificateError;
-use crate::certificates::joint::unroll_joint;
-use crate::{AnswerError, circuit_clauses_are_one, refute, unrolled_query};
+use crate::certificates::joint::check_room;
+use crate::plans::{Ask, Question, answer, check_last};
 use aig_base::Source;
-use aig_circuit::CircuitLists;
+use aig_circuit::{CircuitLists, CircuitView};
+use aig_cnf::clauses_are_one;
 use aig_edits::{Comparison, Pairing, read_joint};
 use aig_refutation::RefutationError;
-use aig_runs::refuted_circuit_queries_have_no_witness;
 use std::alloc::Global;
 
 /// Checks a proof, in the LRAT or the DRAT format, that the query of a circuit for step `k` can't be satisfied, as `check_equal`
@@ -51,13 +52,13 @@ pub fn check_step_of<P: Source>(
     ensures stream { IsErrOf result (AnswerError.Refutation RefutationError.Stream)
         → IsTrue (P.failed proof.new) }
 {
-    refuted_circuit_queries_have_no_witness();
-    circuit_clauses_are_one();
-    let asked = unroll_joint(circuit, limit, k)?;
-    let made = unrolled_query(alloc, &asked, optimize)?;
-    // The clauses are all that the proof is held against.
-    drop(asked);
-    refute(alloc, &made.clauses, &made.extra, proof)
+    clauses_are_one();
+    check_room(&CircuitView::new(&circuit), limit, k)?;
+    let question = Question {
+        ask: Ask::Step(k),
+        optimize,
+    };
+    answer(check_last(alloc, circuit, limit, question, proof))
 }
 
 /// Reads two files in the AIGER format, and checks a proof that their machines are equal at step `k`: on all runs of both from

@@ -1,8 +1,8 @@
 //! A joint circuit with further steps, and the clauses that ask something of it.
 
 ghost use Rattle.std.specs.Prelude.{◌≡◌, ◌^◌, ◌≤◌, IfErr, IfOk, length};
-ghost use Rattle.aig_answers.specs.Answers.{AreWrittenFrom, AskWith, IsOfQuery, verdict_of};
-ghost use Rattle.aig_answers.specs.Certificates.{IsSaidOf, joint_verdict};
+ghost use Rattle.aig_answers.specs.Answers.{AreWrittenFrom, AskWith, IsOfQuery, IsSaidBy, verdict_of};
+ghost use Rattle.aig_answers.specs.Certificates.{joint_verdict};
 ghost use Rattle.aig_circuit.specs.Circuit.{IsCircuit};
 ghost use Rattle.aig_circuit.specs.View.{lists_circuit};
 ghost use Rattle.aig_reader.specs.Verdicts.{verdict_by};
@@ -11,7 +11,7 @@ ghost use Rattle.aig_runs.specs.WindowClauses.{AsksWindow};
 ghost use Rattle.aig_runs.specs.declared.window.Window.TheVariants.{Plain};
 ghost use Rattle.aig_unroll.specs.Unroll.{UnrollsTo};
 
-use crate::{AnswerError, ClauseParts, WindowClauses, plain_window, window_parts};
+use crate::{AnswerError, ClauseParts, window_parts};
 use aig_circuit::{CircuitLists, CircuitView};
 use aig_encode::EncodeError;
 use aig_reader::ReadError;
@@ -21,7 +21,7 @@ use std::alloc::Global;
 
 /// Refuses a joint circuit that has more nodes than the limit, or may have with `k` further steps, and one without bad edges, of which
 /// nothing is asked.
-fn check_room(joint: &CircuitView<'_>, limit: usize, k: usize) -> Result<(), AnswerError>
+pub(crate) fn check_room(joint: &CircuitView<'_>, limit: usize, k: usize) -> Result<(), AnswerError>
     ensures said { verdict_by verdict_of result ≡ joint_verdict limit k joint.now }
     ensures own { IfErr result IsOfQuery }
 {
@@ -48,7 +48,7 @@ pub(crate) fn unroll_joint(
     requires circuit { IsCircuit (lists_circuit joint) }
     ensures unrolls { IfOk result (Unrolls (lists_circuit joint) k) }
     ensures few { IfOk result (λ asked. length asked.unrolled.nodes ≤ limit) }
-    ensures said { IsSaidOf (joint_verdict limit k (lists_circuit joint))
+    ensures said { IsSaidBy (joint_verdict limit k (lists_circuit joint))
         (verdict_by verdict_of result) }
     ensures own { IfErr result IsOfQuery }
 {
@@ -61,32 +61,14 @@ fn unroll_once(joint: &CircuitView<'_>, limit: usize) -> Result<CircuitLists, An
     ensures circuit { IfOk result (λ lists. IsCircuit (lists_circuit lists)) }
     ensures unrolls { IfOk result (λ lists. UnrollsTo joint.now 1 (lists_circuit lists)) }
     ensures few { IfOk result (λ lists. length lists.nodes.items ≤ limit) }
-    ensures said { IsSaidOf (joint_verdict limit 1 joint.now) (verdict_by verdict_of result) }
+    ensures said { IsSaidBy (joint_verdict limit 1 joint.now) (verdict_by verdict_of result) }
     ensures own { IfErr result IsOfQuery }
 {
     check_room(joint, limit, 1)?;
     Ok(unroll_to(joint, 1)?)
 }
 
-/// The clauses of the plain window of two steps of a joint circuit.
-pub(crate) fn ask_window(
-    alloc: Global,
-    joint: &CircuitView<'_>,
-    limit: usize,
-    optimize: bool,
-) -> Result<WindowClauses, AnswerError>
-    requires { limit ≤ 2 ^ 31 }
-    ensures asks { IfOk result
-        (λ made. AsksWindow Plain joint.now 0 optimize made.clauses made.extra) }
-    ensures said { IsSaidOf (joint_verdict limit 1 joint.now) (verdict_by verdict_of result) }
-    ensures own { IfErr result IsOfQuery }
-{
-    let unrolled = unroll_once(joint, limit)?;
-    let unrolled = CircuitView::new(&unrolled);
-    Ok(plain_window(alloc, joint, 0, &unrolled, optimize)?)
-}
-
-/// The joint circuit with one step more, and what the clauses of `ask_window` are written from beside it.
+/// The joint circuit with one step more, and what the clauses of its plain window of two steps are written from beside it.
 pub(crate) fn part_window(
     alloc: Global,
     joint: &CircuitView<'_>,
@@ -98,7 +80,7 @@ pub(crate) fn part_window(
     ensures written { IfOk result (λ made. AreWrittenFrom (lists_circuit made.0) optimize made.1) }
     ensures asks { IfOk result (λ made. AskWith (lists_circuit made.0) optimize
         (λ lists. AsksWindow Plain joint.now 0 optimize lists.clauses lists.extra) made.1) }
-    ensures said { IsSaidOf (joint_verdict limit 1 joint.now) (verdict_by verdict_of result) }
+    ensures said { IsSaidBy (joint_verdict limit 1 joint.now) (verdict_by verdict_of result) }
     ensures own { IfErr result IsOfQuery }
 {
     let stepped = unroll_once(joint, limit)?;

@@ -92,6 +92,6 @@ pub fn check_no_lasso_to<R: Source, P: Source>(
 {
     live_circuits_show_lassos();
     let live = read_live(alloc, j, r, limit)?;
-    check_bounded_of(alloc, &live, limit, k, optimize, proof)?;
+    check_bounded_of(alloc, live, limit, k, optimize, proof)?;
     Ok(())
 }

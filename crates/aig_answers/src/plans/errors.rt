@@ -1,10 +1,14 @@
 //! Why a plan isn't shown to hold.
 
 ghost use Rattle.std.specs.Prelude.{◌≡◌};
+ghost use Rattle.aig_answers.specs.PlanWords.{answer_error, answer_of, bounded_error, bounded_of};
 ghost use Rattle.aig_answers.specs.declared.plans.errors.PlanError.TheVariants as errors;
 ghost use Rattle.aig_answers.specs.declared.plans.errors.Why.TheVariants as whys;
 
+use crate::bounded_checks::BoundedAnswerError;
+use crate::error::AnswerError;
 use aig_bounded::BoundedError;
+use aig_encode::EncodeError;
 use aig_refutation::RefutationError;
 use thiserror::Error;
 
@@ -70,5 +74,47 @@ impl From<Refused> for PlanError {
 
     fn from(error: Refused) -> PlanError {
         PlanError::Refused(error)
+    }
+}
+
+impl From<Why> for BoundedAnswerError {
+    ghost from_gives = { λ e r. r ≡ bounded_error e };
+
+    fn from(error: Why) -> BoundedAnswerError {
+        match error {
+            Why::Clauses(error) => BoundedAnswerError::Question(error),
+            Why::Refutation(error) => BoundedAnswerError::Refutation(error),
+        }
+    }
+}
+
+impl From<Why> for AnswerError {
+    ghost from_gives = { λ e r. r ≡ answer_error e };
+
+    fn from(error: Why) -> AnswerError {
+        match error {
+            Why::Clauses(_) => AnswerError::Encode(EncodeError::Memory),
+            Why::Refutation(error) => AnswerError::Refutation(error),
+        }
+    }
+}
+
+/// An answer to a question, as one about a step or a window.
+pub(crate) fn answer(told: Result<(), Why>) -> Result<(), AnswerError>
+    ensures { result ≡ answer_of told }
+{
+    match told {
+        Ok(()) => Ok(()),
+        Err(why) => Err(AnswerError::from(why)),
+    }
+}
+
+/// An answer to a question, as one about the first steps.
+pub(crate) fn bounded_answer(told: Result<(), Why>) -> Result<(), BoundedAnswerError>
+    ensures { result ≡ bounded_of told }
+{
+    match told {
+        Ok(()) => Ok(()),
+        Err(why) => Err(BoundedAnswerError::from(why)),
     }
 }

@@ -1,6 +1,6 @@
 //! Laws of questions and of plans.
 
-ghost use Rattle.std.specs.Prelude.{◌≡◌, ◌≤◌, ℕ, All, Bool, List, Option};
+ghost use Rattle.std.specs.Prelude.{◌≡◌, ℕ, All, Bool, List, Option};
 ghost use Rattle.aig_circuit.specs.Circuit.{Circuit, IsCircuit};
 ghost use Rattle.aig_format.specs.File.{File};
 ghost use Rattle.aig_format.specs.Fits.{Fits};

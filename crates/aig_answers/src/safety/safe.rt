@@ -16,15 +16,16 @@ ghost use Rattle.aig_runs.specs.Queries.{IsSafeTo};
 ghost use Rattle.aig_answers.specs.Safety.{IsOwn, LeavesBase, LeavesStep, Shows, ShowsCircuit, TellsOfSize, verdict_of};
 ghost use Rattle.aig_answers.specs.declared.safety.error.SafetyError.TheVariants as errors;
 
-use crate::bounded_checks::check_bounded_of;
+use crate::bounded_checks::BoundedAnswerError;
+use crate::plans::{Ask, Question, check_last, check_question, covering_plans_are_safe};
 use crate::safety::error::SafetyError;
-use crate::{Window, check_window_of, check_window_room};
+use crate::{AnswerError, Window, check_window_room};
 use aig_base::Source;
 use aig_bounded::BoundedError;
 use aig_circuit::{CircuitLists, CircuitView};
 use aig_reader::read;
 use aig_refutation::RefutationError;
-use aig_runs::{inductive_windows_are_safe, safe_circuits_are_safe_machines, safe_steps_are_safe};
+use aig_runs::windows_are_one;
 use std::alloc::Global;
 
 /// Checks two proofs as `check_safe` does, of a circuit: each of its leaves is an input or a latch's, and each initial edge is
@@ -76,16 +77,24 @@ pub fn check_safe_of<P: Source, Q: Source>(
     ensures step_stream { IsErrOf result (errors.Step (answers.Refutation RefutationError.Stream))
         → IsTrue (Q.failed step.new) }
 {
-    safe_circuits_are_safe_machines();
-    safe_steps_are_safe();
-    inductive_windows_are_safe();
-    check_window_room(&CircuitView::new(&circuit), limit, k, form)?;
-    if let Err(error) = check_bounded_of(alloc, &circuit, limit, k, base_optimize, base) {
-        return Err(SafetyError::Base(error));
+    covering_plans_are_safe();
+    windows_are_one();
+    let view = CircuitView::new(&circuit);
+    check_window_room(&view, limit, k, form)?;
+    let first = Question {
+        ask: Ask::UpTo(k),
+        optimize: base_optimize,
+    };
+    if let Err(why) = check_question(alloc, &view, limit, first, base) {
+        return Err(SafetyError::Base(BoundedAnswerError::from(why)));
     }
-    match check_window_of(alloc, circuit, limit, k, step_optimize, form, step) {
+    let last = Question {
+        ask: Ask::Window(k, form),
+        optimize: step_optimize,
+    };
+    match check_last(alloc, circuit, limit, last, step) {
         Ok(()) => Ok(()),
-        Err(error) => Err(SafetyError::Step(error)),
+        Err(why) => Err(SafetyError::Step(AnswerError::from(why))),
     }
 }
 

@@ -1,7 +1,6 @@
 //! Whether a circuit's machine reaches no bad state at any step, by a proof for each of the first ones.
 
-ghost use Rattle.std.specs.Prelude.{◌≡◌, ◌≢◌, ◌+◌, ◌<◌, ◌≤◌, ◌^◌, ℕ, IfErr, IfOk, IsErrOf, IsTrue, OnOk, length, slice_get};
-ghost use Rattle.aig_answers.specs.Answers as answering;
+ghost use Rattle.std.specs.Prelude.{◌≡◌, ◌+◌, ◌<◌, ◌≤◌, ◌^◌, ℕ, IfErr, IfOk, IsErrOf, IsTrue, OnOk, length, slice_get};
 ghost use Rattle.aig_answers.specs.Answers.{IsAsked, IsCircuitOf, IsSaidBy, TellsOfCircuit, circuit_window_verdict, window_verdict};
 ghost use Rattle.aig_answers.specs.declared.error.AnswerError.TheVariants as answers;
 ghost use Rattle.aig_circuit.specs.Circuit.{IsCircuit};
@@ -14,63 +13,33 @@ ghost use Rattle.aig_runs.specs.Queries.{IsSafeTo};
 ghost use Rattle.aig_runs.specs.Safety.{IsCircuitSafeAt};
 ghost use Rattle.aig_unroll.specs.Places.{unrolled_size};
 ghost use Rattle.aig_answers.specs.Bases.{IsOfBases, ShowBases};
-ghost use Rattle.aig_answers.specs.Safety.{IsOfStep};
 ghost use Rattle.aig_answers.specs.Steps.{HasAt, IsOwn, LeavesBase, LeavesStep, Show, ShowCircuit, verdict_of};
 ghost use Rattle.aig_answers.specs.declared.safety.error.StepsError.TheVariants as errors;
 
+use crate::plans::{Ask, Question, check_last, check_question, covering_plans_are_safe};
 use crate::safety::error::StepsError;
-use crate::{
-    AnswerError, Window, check_window_of, check_window_room, circuit_clauses_are_one, refute,
-    unrolled_query,
-};
+use crate::{AnswerError, Window, check_window_room};
 use aig_base::Source;
 use aig_circuit::{CircuitLists, CircuitView};
+use aig_cnf::clauses_are_one;
 use aig_reader::read;
 use aig_refutation::RefutationError;
 use aig_runs::{
-    Unrolled, circuit_witnesses_are_file_witnesses, clauses_are_file_runs, encodings_are_one,
-    inductive_windows_are_safe, refuted_circuit_queries_have_no_witness,
-    safe_circuits_are_safe_machines, safe_steps_are_safe,
+    circuit_witnesses_are_file_witnesses, clauses_are_file_runs, encodings_are_one, windows_are_one,
 };
 use std::alloc::Global;
-
-/// Checks a proof that the clauses of a circuit's query for a step can't be satisfied.
-fn check_at<P: Source>(
-    alloc: Global,
-    circuit: &CircuitView<'_>,
-    step: usize,
-    optimize: bool,
-    proof: &mut P,
-) -> Result<(), AnswerError>
-    requires circuit { IsCircuit circuit.now }
-    requires room { unrolled_size circuit.now step ≤ 2 ^ 31 }
-    ensures answer { OnOk result (IsCircuitSafeAt circuit.now step) }
-    ensures said { IsSaidBy Accepted (verdict_by answering.verdict_of result) }
-    ensures own { IfErr result IsOfStep }
-    ensures unread { verdict_by answering.verdict_of result ≢ Accepted → proof.new ≡ proof.old }
-    ensures shown { verdict_by answering.verdict_of result ≡ Accepted
-        → TellsOfCircuit step optimize (P.left proof.old) circuit.now result }
-    ensures stream { IsErrOf result (AnswerError.Refutation RefutationError.Stream)
-        → IsTrue (P.failed proof.new) }
-{
-    refuted_circuit_queries_have_no_witness();
-    circuit_clauses_are_one();
-    let asked = Unrolled::new(circuit.to_lists()?, step)?;
-    let made = unrolled_query(alloc, &asked, optimize)?;
-    // The clauses are all that the proof is held against.
-    drop(asked);
-    refute(alloc, &made.clauses, &made.extra, proof)
-}
 
 /// Checks a proof for each of the steps from 0 on, up to the first that is refused.
 fn check_each<P: Source>(
     alloc: Global,
     circuit: &CircuitView<'_>,
+    limit: usize,
     optimize: bool,
     bases: &mut [P],
 ) -> Result<(), StepsError>
     requires circuit { IsCircuit circuit.now }
-    requires room { (n : ℕ) → n < length bases.old → unrolled_size circuit.now n ≤ 2 ^ 31 }
+    requires few { limit ≤ 2 ^ 31 }
+    requires room { (n : ℕ) → n < length bases.old → unrolled_size circuit.now n ≤ limit }
     ensures answer { OnOk result
         ((n : ℕ) → n < length bases.old → IsCircuitSafeAt circuit.now n) }
     ensures said { IsSaidBy Accepted (verdict_by verdict_of result) }
@@ -82,8 +51,14 @@ fn check_each<P: Source>(
     ensures stream { (n : ℕ) → let e = answers.Refutation RefutationError.Stream in
         IsErrOf result (errors.At n e) → HasAt bases.new n (λ p. IsTrue (P.failed p)) }
 {
+    clauses_are_one();
     for (step, base) in bases.iter_mut().enumerate() {
-        if let Err(error) = check_at(alloc, circuit, step, optimize, base) {
+        let question = Question {
+            ask: Ask::Step(step),
+            optimize,
+        };
+        if let Err(why) = check_question(alloc, circuit, limit, question, base) {
+            let error = AnswerError::from(why);
             return Err(StepsError::At { step, error });
         }
     }
@@ -134,14 +109,18 @@ pub fn check_safe_by_steps_of<P: Source, Q: Source>(
     ensures step_stream { IsErrOf result (errors.Step (answers.Refutation RefutationError.Stream))
         → IsTrue (Q.failed step.new) }
 {
-    safe_circuits_are_safe_machines();
-    safe_steps_are_safe();
-    inductive_windows_are_safe();
-    check_window_room(&CircuitView::new(&circuit), limit, k, form)?;
-    check_each(alloc, &CircuitView::new(&circuit), base_optimize, bases)?;
-    match check_window_of(alloc, circuit, limit, k, step_optimize, form, step) {
+    covering_plans_are_safe();
+    windows_are_one();
+    let view = CircuitView::new(&circuit);
+    check_window_room(&view, limit, k, form)?;
+    check_each(alloc, &view, limit, base_optimize, bases)?;
+    let last = Question {
+        ask: Ask::Window(k, form),
+        optimize: step_optimize,
+    };
+    match check_last(alloc, circuit, limit, last, step) {
         Ok(()) => Ok(()),
-        Err(error) => Err(StepsError::Step(error)),
+        Err(why) => Err(StepsError::Step(AnswerError::from(why))),
     }
 }
 

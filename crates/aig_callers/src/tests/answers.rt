@@ -1,7 +1,6 @@
-//! Proofs of a circuit's query, in both settings of clauses.
+//! Proofs of a file's query, in both settings of clauses.
 
-use crate::tests::read;
-use aig_answers::{AnswerError, check_query_of};
+use aig_answers::{AnswerError, check_step};
 use aig_base::FromRead;
 use aig_refutation::RefutationError;
 use std::alloc::Global;
@@ -14,11 +13,11 @@ const LIMIT: usize = 1 << 24;
 /// never.
 const DIFFERING: &[u8] = b"aag 6 1 1 0 4 1\n2\n4 4\n12\n6 5 2\n8 4 3\n10 9 7\n12 11 3\n";
 
-/// Why a proof of the query for step 0 of a file's circuit is refused, if it is.
-fn fault(alloc: Global, optimize: bool, proof: &[u8]) -> Result<Option<AnswerError>, Fail> {
-    let circuit = read(alloc, DIFFERING)?;
+/// Why a proof of the query for step 0 is refused, if it is.
+fn fault(alloc: Global, optimize: bool, proof: &[u8]) -> Option<AnswerError> {
+    let mut file = FromRead::new(DIFFERING);
     let mut proof = FromRead::new(proof);
-    Ok(check_query_of(alloc, &circuit, LIMIT, 0, optimize, &mut proof).err())
+    check_step(alloc, &mut file, LIMIT, 0, optimize, &mut proof).err()
 }
 
 // Clauses 5, 6, 7, 9 and 10 are `6 2 3`, `-7 -2`, `-7 -6`, `-3` and `7`.
@@ -26,8 +25,8 @@ fn fault(alloc: Global, optimize: bool, proof: &[u8]) -> Result<Option<AnswerErr
 fn takes_a_proof_of_optimized_clauses_alone(rt: HostRuntime) -> Result<(), Fail> {
     let proof = b"11 0 10 6 7 9 5 0\n";
     let step = Some(AnswerError::Refutation(RefutationError::Step));
-    assert!(rt; fault(rt.alloc(), true, proof)? == None);
-    assert!(rt; fault(rt.alloc(), false, proof)? == step);
+    assert!(rt; fault(rt.alloc(), true, proof) == None);
+    assert!(rt; fault(rt.alloc(), false, proof) == step);
     Ok(())
 }
 
@@ -36,7 +35,7 @@ fn takes_a_proof_of_optimized_clauses_alone(rt: HostRuntime) -> Result<(), Fail>
 fn takes_a_proof_of_raw_clauses_alone(rt: HostRuntime) -> Result<(), Fail> {
     let proof = b"16 0 15 11 12 14 2 6 10 0\n";
     let unnamed = Some(AnswerError::Refutation(RefutationError::Unnamed));
-    assert!(rt; fault(rt.alloc(), false, proof)? == None);
-    assert!(rt; fault(rt.alloc(), true, proof)? == unnamed);
+    assert!(rt; fault(rt.alloc(), false, proof) == None);
+    assert!(rt; fault(rt.alloc(), true, proof) == unnamed);
     Ok(())
 }

@@ -1,59 +1,69 @@
-use Rattle.aig_base.proofs.Words.{ap₂, sym, subst, ◌∙◌, IfOk-weaker, err_from_is_err_and}
-use Rattle.aig_reader.specs.Verdicts.{Judges}
-use Rattle.aig_runs.specs.Queries.{query_clauses}
-use Rattle.aig_answers.specs.Answers.{asked_verdict}
-use Rattle.aig_answers.proofs.Alike.{told_alike}
-use Rattle.aig_answers.proofs.Verdicts.{proof_of_step, proof_taken, query_not_taken, query_of_step}
+use Rattle.aig_base.proofs.Words.{◌≤◌, length, subst, sym, ◌∙◌}
+use Rattle.aig_circuit.specs.Circuit.{Circuit, IsCircuit}
+use Rattle.aig_circuit.specs.View.{lists_circuit}
+use Rattle.aig_format.proofs.Circuits.{IsCircuit-of_file}
+use Rattle.aig_format.proofs.Nodes.{few_nodes}
+use Rattle.aig_reader.specs.Verdicts.{verdict_by}
+use Rattle.aig_runs.specs.Safety.{IsCircuitSafeAt, IsSafeAt}
+use Rattle.aig_answers.specs.Answers.{IsSaidBy, TellsOfCircuit, TellsOfStep, verdict_of}
+use Rattle.aig_answers.specs.Certificates.{joint_verdict}
+use Rattle.aig_answers.proofs.Answering.{asked_file, ok_read, read_lists}
+use Rattle.aig_answers.proofs.Stepping.{step_told}
+use Rattle.aig_answers.proofs.Telling.{joint_alike}
+use Rattle.aig_answers.proofs.Verdicts.{asked_judged, read_unrolled}
 use Rattle.aig_answers.proofs.step.check_step.Goals as goal
 
-pub returns-in_err-encoded-clause-verdict : goal.returns-in_err-encoded-clause-verdict
-returns-in_err-encoded-clause-verdict g c =
-    let p = err_from_is_err_and c.from_residual.result c.from_residual.ensures.1 in
-    rw (p.1, p.2) c.in_err-encoded.ensures.verdict
+pub check_step_of-requires-clause-circuit : goal.check_step_of-requires-clause-circuit
+check_step_of-requires-clause-circuit g c =
+    let read = c.in_ok-circuit.ensures.circuit in
+    subst IsCircuit (sym read.means) (IsCircuit-of_file read.file c.args.limit read.holds.1)
 
-pub returns-in_err-encoded-clause-own : goal.returns-in_err-encoded-clause-own
-returns-in_err-encoded-clause-own g c =
-    let p = err_from_is_err_and c.from_residual.result c.from_residual.ensures.1 in
-    rw (p.1, p.2) (query_of_step c.in_err-encoded.field-0.0 c.in_err-encoded.ensures.own)
+pub returns-clause-verdict : goal.returns-clause-verdict
+returns-clause-verdict g c =
+    let a = c.args in
+    let lists = c.in_ok-circuit.circuit in
+    let m = lists_circuit lists in
+    let is = c.in_ok-circuit.ensures in
+    let few = subst (λ (d : Circuit). length d.nodes ≤ a.limit) (sym is.circuit.means)
+    (few_nodes is.circuit.file a.limit is.circuit.holds.1) in
+    asked_judged a.limit a.k _ _ _ m (verdict_by verdict_of c.check_step_of.result)
+    (read_lists a.limit lists _ _ is.circuit) is.verdict
+    (subst (λ of. IsSaidBy of (verdict_by verdict_of c.check_step_of.result))
+    (joint_alike a.limit a.k m few) c.check_step_of.ensures.tells.said)
 
 pub returns-clause-answer : goal.returns-clause-answer
 returns-clause-answer g c =
-    let o = c.in_ok-encoded.ensures.answer in
-    IfOk-weaker c.refute.result _ _ (λ u none. record {
-      file = o.file;
-      bytes = o.bytes;
-      holds = o.holds;
-      means = c.refuted_queries_have_no_witness.ensures o.file c.args.k _ _ _ _ o.means.1 none;
-      taken = o.taken;
-    }) c.refute.ensures.refuted
-
-pub returns-clause-verdict : goal.returns-clause-verdict
-returns-clause-verdict g c = subst (Judges (asked_verdict c.args.limit c.args.k) c.args.limit _ _ _) (sym (proof_taken c.refute.result c.refute.ensures.own)) c.in_ok-encoded.ensures.verdict
-
-pub returns-clause-own : goal.returns-clause-own
-returns-clause-own g c = proof_of_step c.refute.result c.refute.ensures.own
-
-pub returns-clause-unread : goal.returns-clause-unread
-returns-clause-unread g c = λ other. absurd (other (proof_taken c.refute.result c.refute.ensures.own))
-
-pub returns-in_err-encoded-clause-shown : goal.returns-in_err-encoded-clause-shown
-returns-in_err-encoded-clause-shown g c =
-    let p = err_from_is_err_and c.from_residual.result c.from_residual.ensures.1 in
-    rw (p.1, p.2) (λ taken. absurd (query_not_taken c.in_err-encoded.field-0.0 c.in_err-encoded.ensures.own taken))
+    let a = c.args in
+    let lists = c.in_ok-circuit.circuit in
+    let m = lists_circuit lists in
+    let is = c.in_ok-circuit.ensures in
+    let few = subst (λ (d : Circuit). length d.nodes ≤ a.limit) (sym is.circuit.means)
+    (few_nodes is.circuit.file a.limit is.circuit.holds.1) in
+    let told = c.check_step_of.ensures in
+    ok_read _ c.check_step_of.result told.safe
+    (λ safe taken. asked_file a.limit a.k m _ _ (read_lists a.limit lists _ _ is.circuit) a.k
+    (λ f done. IsSafeAt f a.k) _
+    (read_unrolled a.limit a.k m _ (subst (IsSaidBy (joint_verdict a.limit a.k m)) taken
+    told.tells.said ∙ joint_alike a.limit a.k m few))
+    (λ f fits of. (c.safe_circuits_are_safe_machines.ensures f a.limit a.k fits).0
+    (subst (λ d. IsCircuitSafeAt d a.k) of safe)))
 
 pub returns-clause-shown : goal.returns-clause-shown
-returns-clause-shown g c taken =
-    let o = c.in_ok-encoded.ensures.answer in
-    record {
-      file = o.file;
-      bytes = o.bytes;
-      holds = o.holds;
-      means = (
-        (_, o.means),
-        λ q is.
-            let one = c.encodings_are_one.ensures o.file c.args.k c.args.optimize _ _ q.encoded.circuit q.encoded.unrolled _ q.encoded.clauses o.means.0 is.0 in
-            let extra = o.means.1.exact ∙ ap₂ (λ d u. query_clauses d c.args.k u) one.0 one.1 ∙ sym is.1.exact in
-            told_alike _ q.encoded.clauses _ q.extra _ c.refute.result one.2 extra c.refute.ensures.shown,
-      );
-      taken = o.taken;
-    }
+returns-clause-shown g c =
+    let a = c.args in
+    let text = g.P.Source.left a.proof.now in
+    let lists = c.in_ok-circuit.circuit in
+    let m = lists_circuit lists in
+    let is = c.in_ok-circuit.ensures in
+    let few = subst (λ (d : Circuit). length d.nodes ≤ a.limit) (sym is.circuit.means)
+    (few_nodes is.circuit.file a.limit is.circuit.holds.1) in
+    let r = c.check_step_of.result in
+    let told = c.check_step_of.ensures.tells in
+    λ taken. asked_file a.limit a.k m _ _ (read_lists a.limit lists _ _ is.circuit) a.k
+    (TellsOfStep a.k a.optimize text) r
+    (read_unrolled a.limit a.k m _ (subst (IsSaidBy (joint_verdict a.limit a.k m)) taken told.said
+    ∙ joint_alike a.limit a.k m few))
+    (λ f fits of. step_told c.clauses_are_file_runs.ensures
+    c.circuit_witnesses_are_file_witnesses.ensures.asks c.encodings_are_one.ensures f a.limit fits
+    a.optimize a.k text r
+    (subst (λ d. TellsOfCircuit a.k a.optimize text d r) of (told.shown taken)))

@@ -1,77 +1,75 @@
-use Rattle.aig_base.proofs.Words.{sym, subst, IfOk-weaker, err_from_is_err_and}
-use Rattle.aig_format.specs.Circuit.{circuit_of}
-use Rattle.aig_reader.proofs.Verdicts.{short_of}
-use Rattle.aig_reader.specs.Verdicts.{Judges}
-use Rattle.aig_answers.specs.Answers.{window_verdict}
-use Rattle.aig_answers.proofs.Alike.{window_told}
-use Rattle.aig_answers.proofs.Verdicts.{proof_of_induction, proof_taken, window_not_taken, window_of_induction}
+use Rattle.aig_base.proofs.Words.{◌+◌, ap, err_from_is_err_and, subst, sym, ◌∙◌}
+use Rattle.aig_circuit.specs.Circuit.{IsCircuit}
+use Rattle.aig_circuit.specs.View.{lists_circuit}
+use Rattle.aig_format.proofs.Circuits.{IsCircuit-of_file}
+use Rattle.aig_runs.specs.Induction.{IsKInductive}
+use Rattle.aig_answers.specs.Answers.{TellsOfCircuitWindow, TellsOfWindow, circuit_window_verdict, verdict_of, window_verdict, without_names}
+use Rattle.aig_answers.specs.PlanWords.{answer_of}
+use Rattle.aig_answers.proofs.Answering.{asked_file, read_lists}
+use Rattle.aig_answers.proofs.TellingSafe.{room_said}
+use Rattle.aig_answers.proofs.Verdicts.{judged, read_unrolled, window_alike, window_of_file}
+use Rattle.aig_answers.proofs.WordsOfKinds.{answer_said, ok_answer, window_told_of}
 use Rattle.aig_answers.proofs.windows.check_window.Goals as goal
 
-pub returns-in_err-window-clause-verdict : goal.returns-in_err-window-clause-verdict
-returns-in_err-window-clause-verdict g c =
-    let p = err_from_is_err_and c.from_residual.result c.from_residual.ensures.1 in
-    rw (p.1, p.2) c.in_err-window.ensures.verdict
+pub new-requires : goal.new-requires
+new-requires g c =
+    let read = c.in_ok-circuit.ensures.circuit in
+    subst IsCircuit (sym read.means) (IsCircuit-of_file read.file c.args.limit read.holds.1)
 
-pub returns-in_err-window-clause-own : goal.returns-in_err-window-clause-own
-returns-in_err-window-clause-own g c =
-    let p = err_from_is_err_and c.from_residual.result c.from_residual.ensures.1 in
-    rw (p.1, p.2) (window_of_induction c.in_err-window.field-0.0 c.in_err-window.ensures.own)
+pub returns-in_err-check_window_room-clause-verdict : goal.returns-in_err-check_window_room-clause-verdict
+returns-in_err-check_window_room-clause-verdict g c =
+    let p = err_from_is_err_and c.from_residual-in_err-check_window_room.result
+    c.from_residual-in_err-check_window_room.ensures.1 in
+    let a = c.args in
+    let lists = c.in_ok-circuit.circuit in
+    let m = lists_circuit lists in
+    let is = c.in_ok-circuit.ensures in
+    let v = verdict_of c.in_err-check_window_room.field-0.0 in
+    rw (p.1, p.2) (judged (circuit_window_verdict a.form a.limit a.k)
+    (window_verdict a.form a.limit a.k) (window_alike a.form a.limit a.k) a.limit _ _ _ m v
+    (window_of_file a.limit a.k m a.form) (read_lists a.limit lists _ _ is.circuit) is.verdict
+    (room_said a.form a.limit a.k m v (c.in_err-check_window_room.ensures.said
+    ∙ ap (circuit_window_verdict a.form a.limit a.k) c.new.ensures)))
 
-pub list_window-requires-clause-circuit : goal.list_window-requires-clause-circuit
-list_window-requires-clause-circuit g c = c.in_ok-window.ensures.answer.means.circuit
-
-pub list_window-requires-clause-few : goal.list_window-requires-clause-few
-list_window-requires-clause-few g c = c.in_ok-window.ensures.answer.means.few
-
-pub returns-in_err-asked-clause-verdict : goal.returns-in_err-asked-clause-verdict
-returns-in_err-asked-clause-verdict g c =
-    let p = err_from_is_err_and c.from_residual-in_err-asked.result c.from_residual-in_err-asked.ensures.1 in
-    rw (p.1, p.2) (short_of (window_verdict c.args.form c.args.limit c.args.k) c.args.limit _ _ _ c.in_ok-window.ensures.verdict)
-
-pub returns-in_err-asked-clause-own : goal.returns-in_err-asked-clause-own
-returns-in_err-asked-clause-own g c =
-    let p = err_from_is_err_and c.from_residual-in_err-asked.result c.from_residual-in_err-asked.ensures.1 in
-    rw (p.1, p.2) (λ is. cc)
-
-pub returns-in_err-asked-clause-shown : goal.returns-in_err-asked-clause-shown
-returns-in_err-asked-clause-shown g c =
-    let p = err_from_is_err_and c.from_residual-in_err-asked.result c.from_residual-in_err-asked.ensures.1 in
-    rw (p.1, p.2) (λ taken. absurd cc)
+pub returns-clause-verdict : goal.returns-clause-verdict
+returns-clause-verdict g c =
+    let a = c.args in
+    let lists = c.in_ok-circuit.circuit in
+    let m = lists_circuit lists in
+    let is = c.in_ok-circuit.ensures in
+    let room = c.in_ok-check_window_room.ensures.said
+    ∙ ap (circuit_window_verdict a.form a.limit a.k) c.new.ensures in
+    rw c.answer.ensures (judged (circuit_window_verdict a.form a.limit a.k)
+    (window_verdict a.form a.limit a.k) (window_alike a.form a.limit a.k) a.limit _ _ _ m _
+    (window_of_file a.limit a.k m a.form) (read_lists a.limit lists _ _ is.circuit) is.verdict
+    (answer_said (circuit_window_verdict a.form a.limit a.k m) c.check_last.result room))
 
 pub returns-clause-answer : goal.returns-clause-answer
 returns-clause-answer g c =
-    let o = c.in_ok-window.ensures.answer in
-    let asks = c.in_ok-asked.ensures c.args.form (circuit_of o.file) c.args.k o.means in
-    IfOk-weaker c.refute.result _ _ (λ u none. record {
-      file = o.file;
-      bytes = o.bytes;
-      holds = o.holds;
-      means = c.refuted_windows_are_inductive.ensures c.args.form o.file c.args.limit c.args.k c.args.optimize _ _ o.holds.0.0.1 asks none;
-      taken = o.taken;
-    }) c.refute.ensures.refuted
-
-pub returns-clause-verdict : goal.returns-clause-verdict
-returns-clause-verdict g c = subst (Judges (window_verdict c.args.form c.args.limit c.args.k) c.args.limit _ _ _) (sym (proof_taken c.refute.result c.refute.ensures.own)) c.in_ok-window.ensures.verdict
-
-pub returns-clause-own : goal.returns-clause-own
-returns-clause-own g c = proof_of_induction c.refute.result c.refute.ensures.own
-
-pub returns-clause-unread : goal.returns-clause-unread
-returns-clause-unread g c = λ other. absurd (other (proof_taken c.refute.result c.refute.ensures.own))
-
-pub returns-in_err-window-clause-shown : goal.returns-in_err-window-clause-shown
-returns-in_err-window-clause-shown g c =
-    let p = err_from_is_err_and c.from_residual.result c.from_residual.ensures.1 in
-    rw (p.1, p.2) (λ taken. absurd (window_not_taken c.in_err-window.field-0.0 c.in_err-window.ensures.own taken))
+    let a = c.args in
+    let lists = c.in_ok-circuit.circuit in
+    let m = lists_circuit lists in
+    let is = c.in_ok-circuit.ensures in
+    let room = c.in_ok-check_window_room.ensures.said
+    ∙ ap (circuit_window_verdict a.form a.limit a.k) c.new.ensures in
+    rw c.answer.ensures (ok_answer _ c.check_last.result c.check_last.ensures.holds (λ holds.
+    asked_file a.limit a.k m _ _ (read_lists a.limit lists _ _ is.circuit) (a.k + 1)
+    (λ f done. IsKInductive a.form f a.k) _ (read_unrolled a.limit (a.k + 1) m _ room)
+    (λ f fits of. holds f a.limit fits (ap without_names of))))
 
 pub returns-clause-shown : goal.returns-clause-shown
-returns-clause-shown g c taken =
-    let o = c.in_ok-window.ensures.answer in
-    let asks = c.in_ok-asked.ensures c.args.form (circuit_of o.file) c.args.k o.means in
-    record {
-      file = o.file;
-      bytes = o.bytes;
-      holds = o.holds;
-      means = window_told c.windows_are_one.ensures c.args.form _ c.args.k c.args.optimize _ c.refute.result _ _ asks c.refute.ensures.shown;
-      taken = o.taken;
-    }
+returns-clause-shown g c =
+    let a = c.args in
+    let text = g.P.Source.left a.proof.now in
+    let lists = c.in_ok-circuit.circuit in
+    let m = lists_circuit lists in
+    let is = c.in_ok-circuit.ensures in
+    let room = c.in_ok-check_window_room.ensures.said
+    ∙ ap (circuit_window_verdict a.form a.limit a.k) c.new.ensures in
+    let r = c.check_last.result in
+    rw c.answer.ensures (λ taken.
+    asked_file a.limit a.k m _ _ (read_lists a.limit lists _ _ is.circuit) (a.k + 1)
+    (TellsOfWindow a.form a.k a.optimize text) (answer_of r) (read_unrolled a.limit (a.k + 1) m _ room)
+    (λ f fits of. subst (λ d. TellsOfCircuitWindow a.form a.k a.optimize text d (answer_of r)) of
+    (window_told_of g.P.Source.left g.P.Source.failed a.limit a.k a.optimize m a.proof.now
+    c.check_last.new.proof c.windows_are_one.ensures a.form r c.check_last.ensures.tells taken)))

@@ -1,83 +1,54 @@
-use Rattle.aig_base.proofs.Words.{Err, inl, inr, sym, subst, IfOk-weaker, err_from_is_err_and}
-use Rattle.aig_format.specs.Circuit.{circuit_of}
-use Rattle.aig_reader.specs.Verdicts.{Judges}
-use Rattle.aig_refutation.specs.declared.error.RefutationError.TheVariants as RefutationError
-use Rattle.aig_answers.specs.Asking.{bounded_verdict}
-use Rattle.aig_bounded.specs.Question.{question_size}
-use Rattle.aig_answers.proofs.Single.{told_same}
-use Rattle.aig_answers.proofs.BoundedVerdicts.{no_proof, proof_own, proof_small, proof_taken, question_of_check, untaken_question}
+use Rattle.aig_base.proofs.Words.{subst}
+use Rattle.aig_reader.specs.Verdicts.{verdict_by}
+use Rattle.aig_runs.specs.Queries.{IsSafeTo}
+use Rattle.aig_runs.specs.Safety.{IsCircuitSafeAt}
+use Rattle.aig_answers.specs.Asking.{AnswersCircuit, AnswersProof, verdict_of}
+use Rattle.aig_answers.proofs.AskedFiles.{asked_of_lists, read_circuit, read_closed, read_starts}
+use Rattle.aig_answers.proofs.BoundedVerdicts.{judged, ok_bads, taken_bads}
 use Rattle.aig_answers.proofs.bounded_checks.checking.check_bounded.Goals as goal
 
-pub returns-in_err-made-clause-verdict : goal.returns-in_err-made-clause-verdict
-returns-in_err-made-clause-verdict g c =
-    let p = err_from_is_err_and c.from_residual.result c.from_residual.ensures.1 in
-    rw (p.1, p.2) c.in_err-made.ensures.verdict
+pub check_bounded_of-requires-clause-circuit : goal.check_bounded_of-requires-clause-circuit
+check_bounded_of-requires-clause-circuit g c =
+    read_circuit c.args.limit c.args.k c.args.optimize c.in_ok-circuit.circuit _ _
+    c.in_ok-circuit.ensures.circuit
 
-pub returns-in_err-made-clause-own : goal.returns-in_err-made-clause-own
-returns-in_err-made-clause-own g c =
-    let p = err_from_is_err_and c.from_residual.result c.from_residual.ensures.1 in
-    rw (p.1, p.2) (question_of_check c.in_err-made.field-0.0 c.in_err-made.ensures.own)
+pub check_bounded_of-requires-clause-closed : goal.check_bounded_of-requires-clause-closed
+check_bounded_of-requires-clause-closed g c =
+    read_closed c.args.limit c.args.k c.args.optimize c.in_ok-circuit.circuit _ _
+    c.in_ok-circuit.ensures.circuit
 
-pub returns-in_err-made-clause-stream : goal.returns-in_err-made-clause-stream
-returns-in_err-made-clause-stream g c =
-    let p = err_from_is_err_and c.from_residual.result c.from_residual.ensures.1 in
-    rw (p.1, p.2) (λ is. absurd (no_proof (Err c.in_err-made.field-0.0) RefutationError.Stream
-    c.in_err-made.ensures.own is))
+pub check_bounded_of-requires-clause-starts : goal.check_bounded_of-requires-clause-starts
+check_bounded_of-requires-clause-starts g c =
+    read_starts c.args.limit c.args.k c.args.optimize c.in_ok-circuit.circuit _ _
+    c.in_ok-circuit.ensures.circuit
 
-pub returns-in_err-made-clause-shown : goal.returns-in_err-made-clause-shown
-returns-in_err-made-clause-shown g c =
-    let p = err_from_is_err_and c.from_residual.result c.from_residual.ensures.1 in
-    rw (p.1, p.2) (λ is. absurd (untaken_question c.in_err-made.field-0.0 c.in_err-made.ensures.own
-    is))
-
-pub returns-in_err-made-clause-large : goal.returns-in_err-made-clause-large
-returns-in_err-made-clause-large g c =
-    let p = err_from_is_err_and c.from_residual.result c.from_residual.ensures.1 in
-    rw (p.1, p.2) c.in_err-made.ensures.large
-
-pub returns-clause-large : goal.returns-clause-large
-returns-clause-large g c =
-    proof_small c.refute.result c.refute.ensures.own c.args.limit (λ d. question_size d c.args.k)
-    _ _
+pub returns-clause-verdict : goal.returns-clause-verdict
+returns-clause-verdict g c =
+    let is = c.in_ok-circuit.ensures in
+    judged c.args.limit _ _ _ c.in_ok-circuit.circuit (verdict_by verdict_of c.check_bounded_of.result)
+    is.circuit is.verdict c.check_bounded_of.ensures.said
 
 pub returns-clause-answer : goal.returns-clause-answer
 returns-clause-answer g c =
-    let o = c.in_ok-made.ensures.answer in
-    let laws = c.refuted_questions_are_safe.ensures in
-    IfOk-weaker c.refute.result _ _ (λ u either. record {
-      file = o.file;
-      bytes = o.bytes;
-      holds = o.holds;
-      means = elim either [
-        | inl folded ↦ laws.folded o.file c.args.limit c.args.k c.args.optimize c.in_ok-made.made
-            o.holds.0.1 o.means folded
-        | inr none ↦ (laws.refuted o.file c.args.limit c.args.k c.args.optimize c.in_ok-made.made
-            o.holds.0.1 o.means).0 none
-      ];
-      taken = o.taken;
-    }) c.refute.ensures.refuted
-
-pub returns-clause-verdict : goal.returns-clause-verdict
-returns-clause-verdict g c = subst (Judges bounded_verdict c.args.limit _ _ _) (sym (proof_taken
-    c.refute.result c.refute.ensures.own)) c.in_ok-made.ensures.verdict
-
-pub returns-clause-own : goal.returns-clause-own
-returns-clause-own g c = proof_own c.refute.result c.refute.ensures.own
-
-pub returns-clause-unread : goal.returns-clause-unread
-returns-clause-unread g c = λ other. absurd (other (proof_taken c.refute.result
-    c.refute.ensures.own))
+    let a = c.args in
+    let lists = c.in_ok-circuit.circuit in
+    let told = c.check_bounded_of.ensures in
+    ok_bads _ lists.properties.bads.items c.check_bounded_of.result told.said told.answer
+    (λ some safe. asked_of_lists a.limit a.k a.optimize lists _ _ c.in_ok-circuit.ensures.circuit
+    (λ f done. IsSafeTo f a.k) _ some (λ f fits of. c.safe_steps_are_safe.ensures f a.k
+    (λ n low. (c.safe_circuits_are_safe_machines.ensures f a.limit n fits).0
+    (subst (λ d. IsCircuitSafeAt d n) of (safe n low)))))
 
 pub returns-clause-shown : goal.returns-clause-shown
-returns-clause-shown g c = λ taken.
-    let o = c.in_ok-made.ensures.answer in
-    record {
-      file = o.file;
-      bytes = o.bytes;
-      holds = o.holds;
-      means = (
-        (c.in_ok-made.made, o.means),
-        λ other asks. told_same (circuit_of o.file) c.args.k c.args.optimize c.in_ok-made.made other o.means asks _ _ _ _ c.refute.ensures.told,
-      );
-      taken = o.taken;
-    }
+returns-clause-shown g c =
+    let a = c.args in
+    let lists = c.in_ok-circuit.circuit in
+    let told = c.check_bounded_of.ensures in
+    let r = c.check_bounded_of.result in
+    let left = g.P.Source.left in
+    let rest = c.check_bounded_of.new.proof in
+    λ taken. asked_of_lists a.limit a.k a.optimize lists _ _ c.in_ok-circuit.ensures.circuit
+    (AnswersProof left a.k a.optimize a.proof.now rest) r
+    (taken_bads lists.properties.bads.items _ taken told.said)
+    (λ f fits of. subst (λ d. AnswersCircuit left a.k a.optimize a.proof.now rest d r) of
+    (told.shown taken))

@@ -1,78 +1,90 @@
-use Rattle.aig_base.proofs.Words.{◌≡◌, ℕ, Ok, Err, subst}
-use Rattle.aig_answers.specs.Answers.{IsOfQuery}
-use Rattle.aig_answers.specs.declared.error.AnswerError.TheVariants as answers
-use Rattle.aig_refutation.specs.declared.error.RefutationError.TheVariants.{Stream}
+use Rattle.aig_base.proofs.Words.{Err, Ok, ap, subst, ◌∙◌}
 use Rattle.aig_circuit.specs.Circuit.{Circuit}
 use Rattle.aig_circuit.specs.View.{lists_circuit}
 use Rattle.aig_runs.specs.Safety.{IsCircuitSafeAt}
-use Rattle.aig_answers.specs.Certificates.{TellsOfTwo}
-use Rattle.aig_answers.specs.PairParts.{HasNoWindow}
-use Rattle.aig_answers.proofs.Telling.{based, refused_query, step_of_proof}
+use Rattle.aig_answers.specs.Answers.{verdict_of}
+use Rattle.aig_answers.specs.Certificates.{joint_verdict}
+use Rattle.aig_answers.specs.PlanWords.{answer_error}
+use Rattle.aig_answers.specs.Plans.{Tells, asked_with}
+use Rattle.aig_answers.specs.declared.plans.asking.Ask.TheVariants as asks
+use Rattle.aig_answers.proofs.Telling.{equal_said, refused_two, step_of_proof}
+use Rattle.aig_answers.proofs.Verdicts.{query_of_step}
+use Rattle.aig_answers.proofs.WordsOfKinds.{no_window, proof_own, query_tells, two_tells}
 use Rattle.aig_answers.proofs.certificates.certified.check_both.Goals as goal
 
-pub returns-in-Err-check_base-clause-holds : goal.returns-in-Err-check_base-clause-holds
-returns-in-Err-check_base-clause-holds g c =
-    let e = c.in-Err-check_base.error in
-    let told = c.in-Err-check_base.ensures in (
-      step_of_proof e told.own,
-      based c.args.limit c.args.optimize (g.P.Source.left c.args.base.now)
-          (lists_circuit c.args.joint) 0 c.in-Ok.asked c.in-Ok.ensures.unrolls (Err e) told.own
-          c.in-Ok.ensures.said told.shown,
+pub returns-in-Err-check_question-clause-holds : goal.returns-in-Err-check_question-clause-holds
+returns-in-Err-check_question-clause-holds g c =
+    let a = c.args in
+    let m = lists_circuit a.joint in
+    let why = c.in-Err-check_question.why in
+    let rest = c.check_question.new.proof in
+    let told = subst (λ (d : Circuit). Tells g.P.Source.left g.P.Source.failed a.limit
+    (asked_with a.optimize (asks.Step 0)) d a.base.now rest (Err why)) c.new-view.ensures
+    c.in-Err-check_question.ensures.tells in
+    rw c.from.ensures (
+      step_of_proof (answer_error why) (proof_own (Err why)),
+      query_tells g.P.Source.left g.P.Source.failed a.limit 0 a.optimize m a.base.now rest
+          c.clauses_are_one.ensures (Err why) told
+          (c.in_default.ensures.said ∙ ap (joint_verdict a.limit 0) c.new-view.ensures),
     )
 
-pub returns-in-Ok-check_step-clause-holds : goal.returns-in-Ok-check_step-clause-holds
-returns-in-Ok-check_step-clause-holds g c =
-    let limit = c.args.limit in
-    let optimize = c.args.optimize in
-    let m = lists_circuit c.args.joint in
-    let asked = c.in-Ok.asked in
-    let steps = c.in-Ok.ensures.unrolls in
-    let base = c.in_default.ensures in
-    let step = c.in-Ok-check_step.ensures in (
+pub returns-in-Err-check_room-clause-holds : goal.returns-in-Err-check_room-clause-holds
+returns-in-Err-check_room-clause-holds g c =
+    let a = c.args in
+    let m = lists_circuit a.joint in
+    let rest = c.check_question.new.proof in
+    let told = subst (λ (d : Circuit). Tells g.P.Source.left g.P.Source.failed a.limit
+    (asked_with a.optimize (asks.Step 0)) d a.base.now rest (Ok tt)) c.new-view.ensures
+    c.in_default-check_question.ensures.tells in
+    let e = c.in-Err-check_room.error in
+    let own = c.in-Err-check_room.ensures.own in (
+      query_of_step e own,
+      query_tells g.P.Source.left g.P.Source.failed a.limit 0 a.optimize m a.base.now rest
+          c.clauses_are_one.ensures (Ok tt) told
+          (c.in_default.ensures.said ∙ ap (joint_verdict a.limit 0) c.new-view.ensures),
+      refused_two a.limit a.optimize (g.Q.Source.left a.step.now) m e own
+          (equal_said a.limit 1 m (verdict_of e)
+          (c.in-Err-check_room.ensures.said ∙ ap (joint_verdict a.limit 1) c.new-view.ensures)),
+    )
+
+pub returns-in-Ok-clause-holds : goal.returns-in-Ok-clause-holds
+returns-in-Ok-clause-holds g c =
+    let a = c.args in
+    let m = lists_circuit a.joint in
+    let rest = c.check_question.new.proof in
+    let first = c.in_default-check_question.ensures in
+    let told = subst (λ (d : Circuit). Tells g.P.Source.left g.P.Source.failed a.limit
+    (asked_with a.optimize (asks.Step 0)) d a.base.now rest (Ok tt)) c.new-view.ensures
+    first.tells in
+    let after = c.check_last.new.proof in
+    let last = c.in-Ok.ensures.tells in (
       (
-        subst (λ (n : ℕ). IsCircuitSafeAt m n) steps.steps
-            (subst (λ (d : Circuit). IsCircuitSafeAt d asked.steps) steps.circuit base.safe),
-        subst (λ (d : Circuit). HasNoWindow optimize d) steps.circuit step.none,
+        subst (λ (d : Circuit). IsCircuitSafeAt d 0) c.new-view.ensures first.holds,
+        no_window g.Q.Source.left g.Q.Source.failed a.limit a.optimize m a.step.now after last,
       ),
-      based limit optimize (g.P.Source.left c.args.base.now) m 0 asked steps (Ok tt) tt
-          c.in-Ok.ensures.said base.shown,
-      subst (λ (d : Circuit). TellsOfTwo limit optimize (g.Q.Source.left c.args.step.now) d (Ok tt))
-          steps.circuit step.tells,
+      query_tells g.P.Source.left g.P.Source.failed a.limit 0 a.optimize m a.base.now rest
+          c.clauses_are_one.ensures (Ok tt) told
+          (c.in_default.ensures.said ∙ ap (joint_verdict a.limit 0) c.new-view.ensures),
+      two_tells g.Q.Source.left g.Q.Source.failed a.limit a.optimize m a.step.now after
+          c.windows_are_one.ensures (Ok tt) last
+          (c.in_default-check_room.ensures.said ∙ ap (joint_verdict a.limit 1) c.new-view.ensures),
     )
 
-pub returns-in-Err-check_step-clause-holds : goal.returns-in-Err-check_step-clause-holds
-returns-in-Err-check_step-clause-holds g c =
-    let limit = c.args.limit in
-    let optimize = c.args.optimize in
-    let m = lists_circuit c.args.joint in
-    let steps = c.in-Ok.ensures.unrolls in
-    let e = c.in-Err-check_step.error in
-    let step = c.in-Err-check_step.ensures in (
-      step.own,
-      based limit optimize (g.P.Source.left c.args.base.now) m 0 c.in-Ok.asked steps (Ok tt) tt
-          c.in-Ok.ensures.said c.in_default.ensures.shown,
-      subst (λ (d : Circuit). TellsOfTwo limit optimize (g.Q.Source.left c.args.step.now) d (Err e))
-          steps.circuit step.tells,
+pub returns-in-Err-check_last-clause-holds : goal.returns-in-Err-check_last-clause-holds
+returns-in-Err-check_last-clause-holds g c =
+    let a = c.args in
+    let m = lists_circuit a.joint in
+    let rest = c.check_question.new.proof in
+    let told = subst (λ (d : Circuit). Tells g.P.Source.left g.P.Source.failed a.limit
+    (asked_with a.optimize (asks.Step 0)) d a.base.now rest (Ok tt)) c.new-view.ensures
+    c.in_default-check_question.ensures.tells in
+    let why = c.in-Err-check_last.why in
+    rw c.from-in-Err-check_last.ensures (
+      step_of_proof (answer_error why) (proof_own (Err why)),
+      query_tells g.P.Source.left g.P.Source.failed a.limit 0 a.optimize m a.base.now rest
+          c.clauses_are_one.ensures (Ok tt) told
+          (c.in_default.ensures.said ∙ ap (joint_verdict a.limit 0) c.new-view.ensures),
+      two_tells g.Q.Source.left g.Q.Source.failed a.limit a.optimize m a.step.now
+          c.check_last.new.proof c.windows_are_one.ensures (Err why) c.in-Err-check_last.ensures.tells
+          (c.in_default-check_room.ensures.said ∙ ap (joint_verdict a.limit 1) c.new-view.ensures),
     )
-
-pub returns-in-Err-clause-holds : goal.returns-in-Err-clause-holds
-returns-in-Err-clause-holds g c =
-    refused_query c.args.limit c.args.optimize (g.P.Source.left c.args.base.now)
-    (lists_circuit c.args.joint) 0 c.in-Err.error c.in-Err.ensures.own c.in-Err.ensures.said
-
-pub returns-in-Err-clause-base_stream : goal.returns-in-Err-clause-base_stream
-returns-in-Err-clause-base_stream g c = λ is.
-    let same : c.in-Err.error ≡ answers.Refutation Stream = cc in
-    absurd (subst IsOfQuery same c.in-Err.ensures.own)
-
-pub returns-in-Err-check_step-clause-step_unread : goal.returns-in-Err-check_step-clause-step_unread
-returns-in-Err-check_step-clause-step_unread g c = c.in-Err-check_step.ensures.unread
-
-pub returns-in-Err-check_base-clause-base_unread : goal.returns-in-Err-check_base-clause-base_unread
-returns-in-Err-check_base-clause-base_unread g c = c.in-Err-check_base.ensures.unread
-
-pub returns-in-Err-check_base-clause-base_stream : goal.returns-in-Err-check_base-clause-base_stream
-returns-in-Err-check_base-clause-base_stream g c = λ is. c.in-Err-check_base.ensures.stream cc
-
-pub returns-in-Err-check_step-clause-step_stream : goal.returns-in-Err-check_step-clause-step_stream
-returns-in-Err-check_step-clause-step_stream g c = λ is. c.in-Err-check_step.ensures.stream cc
