@@ -15,3 +15,4 @@ pub mod Equality
 pub mod Liveness
 pub mod Plans
 pub mod PlanWords
+pub mod Windows

@@ -2,6 +2,8 @@
 
 ghost use Rattle.std.specs.Prelude.{◌≡◌, ◌≢◌, ◌+◌, ◌*◌, ◌≤◌, ◌<◌, ◌^◌, ◌↔◌, ◌++◌, [], IfErr, IfOk, IsErrOf, IsTrue, OnOk, false, length, map, replicate, ℕ};
 ghost use Rattle.aig_answers.specs.Answers.{IsAsked, IsOfInduction, IsOfWindow, IsSaidBy, IsUnrolledWindow, TellsOfWindow, circuit_window_verdict, verdict_of, window_size, window_verdict};
+ghost use Rattle.aig_answers.specs.Windows.{IsSteppedWindow};
+ghost use Rattle.aig_base.specs.Clauses.{AreRelations};
 ghost use Rattle.aig_runs.specs.Induction.{IsKInductive};
 ghost use Rattle.aig_runs.specs.WindowClauses.{AsksWindow, count_free, states_clauses, watched, window_clauses};
 ghost use Rattle.aig_circuit.specs.Circuit.{Circuit, IsCircuit, latch_leaves};
@@ -46,6 +48,17 @@ pub struct UnrolledWindow {
     pub needed: NeededGates,
     /// The window clauses.
     pub extra: LitVvec,
+}
+
+/// A circuit with the further steps of a window, and the window clauses.
+#[derive(Drop)]
+struct SteppedWindow {
+    /// The circuit with its further steps.
+    unrolled: CircuitLists,
+    /// How many free variables come behind those of its nodes.
+    free: usize,
+    /// The window clauses.
+    extra: LitVvec,
 }
 
 /// The edges of the leaves of latches.
@@ -150,6 +163,31 @@ fn further_of(
     Ok(extra)
 }
 
+/// Gives a circuit the further steps of a window.
+fn step_window(
+    alloc: Global,
+    circuit: CircuitLists,
+    k: usize,
+    form: Window,
+) -> Result<SteppedWindow, MemoryError>
+    requires steps { k < 2 ^ 32 }
+    requires circuit { IsCircuit (lists_circuit circuit) }
+    requires room { window_size form (lists_circuit circuit) k ≤ 2 ^ 31 }
+    ensures { IfOk result (IsSteppedWindow form (lists_circuit circuit) k) }
+{
+    let watched = watch(alloc, circuit, form)?;
+    let circuit = CircuitView::new(&watched);
+    let lists = unroll_to(&circuit, k + 1)?;
+    let unrolled = CircuitView::new(&lists);
+    let extra = further_of(alloc, &circuit, k, &unrolled, form)?;
+    let free = count_free(&circuit, k, form);
+    Ok(SteppedWindow {
+        unrolled: lists,
+        free,
+        extra,
+    })
+}
+
 /// A circuit's window.
 fn unroll_window(
     alloc: Global,
@@ -165,15 +203,15 @@ fn unroll_window(
 {
     clauses_fix_roots();
     clauses_are_one();
-    let watched = watch(alloc, circuit, form)?;
-    let circuit = CircuitView::new(&watched);
-    let lists = unroll_to(&circuit, k + 1)?;
-    let unrolled = CircuitView::new(&lists);
-    let extra = further_of(alloc, &circuit, k, &unrolled, form)?;
-    let free = count_free(&circuit, k, form);
-    let needed = find_needed(alloc, &unrolled, optimize)?;
+    let stepped = step_window(alloc, circuit, k, form)?;
+    let SteppedWindow {
+        unrolled,
+        free,
+        extra,
+    } = stepped;
+    let needed = find_needed(alloc, &CircuitView::new(&unrolled), optimize)?;
     Ok(UnrolledWindow {
-        unrolled: lists,
+        unrolled,
         free,
         needed,
         extra,
@@ -277,30 +315,14 @@ fn add_free(clauses: &mut DagCnf, count: usize) -> Result<(), MemoryError>
     Ok(())
 }
 
-/// The clauses of a window, as lists.
-fn list_window(
-    alloc: Global,
-    window: UnrolledWindow,
-    optimize: bool,
-) -> Result<WindowClauses, MemoryError>
-    requires circuit { IsCircuit (lists_circuit window.unrolled) }
-    requires few { length (lists_circuit window.unrolled).nodes + window.free ≤ 2 ^ 31 }
-    ensures { IfOk result (λ made. (form : Window) (c : Circuit) (k : ℕ)
-        → IsUnrolledWindow form c k optimize window
-        → AsksWindow form c k optimize made.clauses made.extra) }
+/// Tells that clauses that are given to variables are of those that are there.
+fn tell_relations(clauses: &DagCnf)
+    ensures { AreRelations clauses.now }
 {
-    let UnrolledWindow {
-        unrolled,
-        free,
-        needed: _,
-        extra,
-    } = window;
-    let mut clauses = encode(alloc, &CircuitView::new(&unrolled), optimize)?;
-    add_free(&mut clauses, free)?;
-    Ok(WindowClauses { clauses, extra })
+    let _variables = clauses.num_vars();
 }
 
-/// The clauses that ask for a circuit's window.
+/// The clauses that ask for a circuit's window. The circuit is dropped before those of gates are made.
 pub(crate) fn window_clauses(
     alloc: Global,
     circuit: CircuitLists,
@@ -314,8 +336,16 @@ pub(crate) fn window_clauses(
     ensures { IfOk result
         (λ made. AsksWindow form (lists_circuit circuit) k optimize made.clauses made.extra) }
 {
-    let window = unroll_window(alloc, circuit, k, optimize, form)?;
-    list_window(alloc, window, optimize)
+    let stepped = step_window(alloc, circuit, k, form)?;
+    let SteppedWindow {
+        unrolled,
+        free,
+        extra,
+    } = stepped;
+    let mut clauses = encode(alloc, &CircuitView::new(&unrolled), optimize)?;
+    tell_relations(&clauses);
+    add_free(&mut clauses, free)?;
+    Ok(WindowClauses { clauses, extra })
 }
 
 /// Reads a circuit from the bytes of an AIGER file, and checks a proof, in the LRAT or the DRAT format, that the clauses of
