@@ -6,7 +6,6 @@ use Rattle.aig_base.specs.Clauses.{lit_to}
 use Rattle.aig_answers.specs.declared.error.AnswerError.{AnswerError}
 use Rattle.aig_answers.specs.declared.error.AnswerError.TheVariants as answers
 use Rattle.aig_answers.specs.declared.safety.error.SafetyError.TheVariants as safety
-use Rattle.aig_check_commands.specs.declared.error.CheckError.TheVariants as checks
 use Rattle.aig_edits.specs.declared.pair_error.PairError.TheVariants as pair
 use Rattle.aig_reader.specs.declared.error.ReadError.TheVariants as read
 use Rattle.aig_reader.specs.declared.error.Section.TheVariants as section
@@ -21,9 +20,9 @@ use Rattle.aig_witness.specs.declared.fault.WitnessFault.TheVariants as faults
 use Rattle.aig_witness.specs.declared.file.ShowError.TheVariants as shows
 use Rattle.aig_witness.specs.declared.file.Shown.{Shown}
 use Rattle.aig_calls.specs.Calls.{ChecksAt, GivesItems, GivesListing, IsGiven, Prints, TellsBad, TellsLasso, form_of}
-use Rattle.aig_calls.specs.Memory.{Memory, bytes_of}
+use Rattle.aig_calls.specs.Memory.{Writer, held}
 use Rattle.aig_calls.specs.Numbers.{clause_numbers, dimacs_number}
-use Rattle.aig_calls.specs.Statuses.{answer_status, check_status, claim_status, done, made_status, many_steps, pair_status, read_status, safety_status, show_status, simulation_status, small, status_by}
+use Rattle.aig_calls.specs.Statuses.{answer_status, claim_status, done, made_status, many_steps, pair_status, read_status, safety_status, show_status, simulation_status, small, status_by}
 
 -- ---- statuses
 
@@ -151,8 +150,8 @@ no_lasso_of_bad had justice before start at last told =
 
 -- another text is given than was written
 no_other_text :
-    ¬ Prints (λ (r : Result Unit AnswerError) (old new : Memory).
-    bytes_of new ≡ Some (codes "equal")) (Ok (codes "safe"))
+    ¬ Prints (λ (r : Result Unit AnswerError) (old new : Writer).
+    held new ≡ Some (codes "equal")) (Ok (codes "safe"))
 no_other_text printed =
     let text : codes "safe" ≡ codes "equal" = same_Some _ _ (sym printed.3.0 ∙ printed.3.1) in
     let letter : 115 ≡ 101 = ap (λ bytes. slice_index bytes 0) text in

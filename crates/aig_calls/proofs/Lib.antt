@@ -1,4 +1,4 @@
 pub mod Examples
-mod Seen
+mod Given
 mod Listing
 mod Placing

@@ -6,13 +6,8 @@ use Rattle.std.specs.Prelude.{◌≡◌, ℕ, ◌<◌, ◌≤◌, ◌^◌, ◌++
 use Rattle.aig_answers.specs.Answers as answering
 use Rattle.aig_answers.specs.Answers.{IsAsked, IsOfQuery, asked_verdict}
 use Rattle.aig_answers.specs.declared.error.AnswerError.{AnswerError}
-use Rattle.aig_check_commands.specs.Comparing.{RunsComparing}
 use Rattle.aig_check_commands.specs.Pairs.{RunsPair}
-use Rattle.aig_check_commands.specs.Running.{Runs}
-use Rattle.aig_check_commands.specs.Safe.{RunsSafe}
-use Rattle.aig_check_commands.specs.Simulating.{RunsSimulated}
-use Rattle.aig_calls.specs.declared.pairs.TheConstants.{COMPARISON}
-use Rattle.aig_simulated.specs.Simulated.{Proofs, proofs_of}
+use Rattle.aig_check_commands.specs.Running.{Runs, nothing_fails, nothing_given}
 use Rattle.aig_check_commands.specs.declared.command.FileCommand.{FileCommand}
 use Rattle.aig_check_commands.specs.declared.command.PairCommand.{PairCommand}
 use Rattle.aig_check_commands.specs.declared.error.CheckError.{CheckError}
@@ -38,9 +33,6 @@ use Rattle.aig_witness.specs.declared.fair.file.ShownProperty.{ShownProperty}
 use Rattle.aig_witness.specs.declared.fair.file.ShownProperty.TheVariants as properties
 use Rattle.aig_format.specs.File.{File}
 use Rattle.aig_format.specs.Fits.{Accepts}
-use Rattle.aig_answers.specs.Liveness as living
-use Rattle.aig_answers.specs.Liveness.{HasNoLasso, HasNoLassoTo, HasNoRun, verdict_of}
-use Rattle.aig_answers.specs.declared.liveness.error.LivenessError.{LivenessError}
 use Rattle.aig_reader.specs.Reading.{IsReadAs}
 use Rattle.aig_reader.specs.Verdicts.{Accepted, Judges, Verdict, verdict_by}
 use Rattle.aig_runs.specs.declared.window.Window.{Window}
@@ -50,7 +42,7 @@ use Rattle.aig_witness.specs.Files.{ShowsNext}
 use Rattle.aig_witness.specs.declared.file.ShowError.{ShowError}
 use Rattle.aig_witness.specs.declared.file.Shown.{Shown}
 use Rattle.aig_calls.specs.Numbers.{IsListing, Listing}
-use Rattle.aig_calls.specs.Memory.{Memory, On, Unseen, Into, bytes_of, has_failed}
+use Rattle.aig_calls.specs.Memory.{Into, On, Reader, Writer, bytes_of, has_failed, held, write_failed}
 use Rattle.aig_calls.specs.Statuses.{answer_status, claim_status, done, many_steps, show_status, small, status_by, witness_bad}
 
 -- ---- words
@@ -62,124 +54,83 @@ form_of distinct = if distinct then Distinct else Plain
 -- ---- what is done with bytes
 
 -- a command of `aigtool` was run on these bytes
-abbrev pub RunsTool : ℕ → Command → List ℕ → Result Unit ToolError → Memory → Memory → Type 0
+abbrev pub RunsTool : ℕ → Command → List ℕ → Result Unit ToolError → Writer → Writer → Type 0
 RunsTool limit c file result w made =
-    On (Some file) (λ r rest.
-    tool.Runs bytes_of has_failed bytes_of has_failed c limit r w result rest made)
+    On file (λ r rest.
+    tool.Runs bytes_of has_failed held write_failed c limit r w result rest made)
 
--- a command of `aigcheck` was, and on those that are given beside them, if there are any
-abbrev pub RunsOn : ℕ → FileCommand → List ℕ → Option (List ℕ) → Result Unit CheckError → Memory
-    → Memory → Type 0
+-- a command of `aigcheck` was
+abbrev pub RunsAlone : ℕ → FileCommand → List ℕ → Result Unit CheckError → Writer → Writer → Type 0
+RunsAlone limit c file result w made =
+    On file (λ r rest.
+    Runs bytes_of has_failed nothing_given nothing_fails held write_failed c limit r tt w result
+    rest tt made)
+
+-- and on those that are given beside them
+abbrev pub RunsOn : ℕ → FileCommand → List ℕ → List ℕ → Result Unit CheckError → Writer → Writer
+    → Type 0
 RunsOn limit c file given result w made =
-    On (Some file) (λ r rest. On given (λ p used.
-    Runs bytes_of has_failed bytes_of has_failed bytes_of has_failed c limit r p w result rest used
+    On file (λ r rest. On given (λ p used.
+    Runs bytes_of has_failed bytes_of has_failed held write_failed c limit r p w result rest used
     made))
 
--- so on the bytes of two files, and on those of two proofs, if there are any
-abbrev pub RunsOnPair : ℕ → PairCommand → List ℕ → List ℕ → Option (List ℕ) → Option (List ℕ)
-    → Result Unit CheckError → Memory → Memory → Type 0
-RunsOnPair limit c file other base step result w made =
-    On (Some file) (λ r rest. On (Some other) (λ s left. On base (λ p used. On step (λ q spent.
-    RunsPair bytes_of has_failed bytes_of has_failed bytes_of has_failed bytes_of has_failed
-    bytes_of has_failed c limit r s p q w result rest left used spent made))))
-
--- `safe` was run on those of a file and of two proofs
-abbrev pub RunsOnSafe : ℕ → ℕ → Window → Bool → Bool → List ℕ → List ℕ → List ℕ
-    → Result Unit CheckError → Memory → Memory → Type 0
-RunsOnSafe limit k form base_optimize step_optimize file base step result w made =
-    On (Some file) (λ r rest. On (Some base) (λ p used. On (Some step) (λ q spent.
-    RunsSafe bytes_of has_failed bytes_of has_failed bytes_of has_failed bytes_of has_failed k form
-    base_optimize step_optimize limit r p q w result rest used spent made)))
-
--- `equal` with `by` was run on those of two files, a certificate and two proofs
-abbrev pub RunsOnMiter : ℕ → Bool → List ℕ → List ℕ → List ℕ → List ℕ → List ℕ
-    → Result Unit CheckError → Memory → Memory → Type 0
-RunsOnMiter limit optimize file other certificate base step result w made =
-    On (Some file) (λ r rest. On (Some other) (λ s left. On (Some certificate) (λ c tried.
-    On (Some base) (λ p used. On (Some step) (λ q spent.
-    RunsComparing bytes_of has_failed bytes_of has_failed bytes_of has_failed bytes_of has_failed
-    bytes_of has_failed bytes_of has_failed COMPARISON optimize limit r s c p q w result rest left
-    tried used spent made)))))
-
--- `certified` was run on those of a file, a witness circuit and a proof for each condition
-abbrev pub RunsOnWitness : ℕ → Bool → List ℕ → List ℕ → Proofs (List ℕ) → Result Unit CheckError
-    → Memory → Memory → Type 0
-RunsOnWitness limit optimize file witness proofs result w made =
-    On (Some file) (λ r rest. On (Some witness) (λ s left. On (Some proofs.reset) (λ a a_rest.
-    On (Some proofs.transition) (λ b b_rest. On (Some proofs.property) (λ c c_rest.
-    On (Some proofs.base) (λ d d_rest. On (Some proofs.step) (λ e e_rest.
-    RunsSimulated bytes_of has_failed bytes_of has_failed bytes_of has_failed bytes_of has_failed
-    optimize limit r s (proofs_of a b c d e) w result rest left
-    (proofs_of a_rest b_rest c_rest d_rest e_rest) made)))))))
+-- or on those of two files
+abbrev pub RunsOnPair : ℕ → PairCommand → List ℕ → List ℕ → Result Unit CheckError → Writer
+    → Writer → Type 0
+RunsOnPair limit c file other result w made =
+    On file (λ r rest. On other (λ s left.
+    RunsPair bytes_of has_failed bytes_of has_failed nothing_given nothing_fails nothing_given
+    nothing_fails held write_failed c limit r s tt tt w result rest left tt tt made))
 
 -- a call was made that reads these bytes as a file
 abbrev pub Reads : {T E : Type 0} → ℕ → (File → Result T E → Type 0) → (E → Verdict)
     → (E → Type 0) → List ℕ → Result T E → Type 0
 Reads limit Means said Own file result =
-    On (Some file) (λ r rest.
-    ReadsFile bytes_of has_failed limit Means said Own r result rest)
+    On file (λ r rest. ReadsFile bytes_of has_failed limit Means said Own r result rest)
 
 -- or these and those as two files
 abbrev pub ReadsBoth : {T E : Type 0} → ℕ → (File → File → Result T E → Type 0) → (E → Verdict)
     → (E → Verdict) → (E → Type 0) → List ℕ → List ℕ → Result T E → Type 0
 ReadsBoth limit Means first second Own file other result =
-    On (Some file) (λ r rest. On (Some other) (λ s left.
+    On file (λ r rest. On other (λ s left.
     ReadsPair bytes_of has_failed bytes_of has_failed limit Means first second Own r s result rest
     left))
 
 -- something was made of a file, and its text was written
-abbrev pub Makes : ℕ → (Memory → Memory → File → Result Unit EditError → Type 0) → List ℕ
-    → Result Unit EditError → Memory → Memory → Type 0
+abbrev pub Makes : ℕ → (Writer → Writer → File → Result Unit EditError → Type 0) → List ℕ
+    → Result Unit EditError → Writer → Writer → Type 0
 Makes limit Writes file result w made =
     Reads limit (Writes w made) edit_verdict IsEditOwn file result
 
-abbrev pub MakesEdit : ℕ → Edit → List ℕ → Result Unit EditError → Memory → Memory → Type 0
-MakesEdit limit edit = Makes limit (PrintsEdit bytes_of has_failed edit limit)
+abbrev pub MakesEdit : ℕ → Edit → List ℕ → Result Unit EditError → Writer → Writer → Type 0
+MakesEdit limit edit = Makes limit (PrintsEdit held write_failed edit limit)
 
-abbrev pub MakesReduction : ℕ → List ℕ → Result Unit EditError → Memory → Memory → Type 0
-MakesReduction limit = Makes limit (PrintsReduction bytes_of has_failed)
+abbrev pub MakesReduction : ℕ → List ℕ → Result Unit EditError → Writer → Writer → Type 0
+MakesReduction limit = Makes limit (PrintsReduction held write_failed)
 
-abbrev pub MakesQuestion : ℕ → ℕ → List ℕ → Result Unit EditError → Memory → Memory → Type 0
-MakesQuestion limit k = Makes limit (PrintsQuestion bytes_of has_failed k limit)
+abbrev pub MakesQuestion : ℕ → ℕ → List ℕ → Result Unit EditError → Writer → Writer → Type 0
+MakesQuestion limit k = Makes limit (PrintsQuestion held write_failed k limit)
 
-abbrev pub MakesInfo : ℕ → List ℕ → Result Unit EditError → Memory → Memory → Type 0
-MakesInfo limit = Makes limit (PrintsInfo bytes_of has_failed)
+abbrev pub MakesInfo : ℕ → List ℕ → Result Unit EditError → Writer → Writer → Type 0
+MakesInfo limit = Makes limit (PrintsInfo held write_failed)
 
-abbrev pub MakesLive : ℕ → ℕ → List ℕ → Result Unit EditError → Memory → Memory → Type 0
-MakesLive limit j = Makes limit (PrintsLive bytes_of has_failed j)
+abbrev pub MakesLive : ℕ → ℕ → List ℕ → Result Unit EditError → Writer → Writer → Type 0
+MakesLive limit j = Makes limit (PrintsLive held write_failed j)
 
-abbrev pub MakesRounds : ℕ → ℕ → ℕ → List ℕ → Result Unit EditError → Memory → Memory → Type 0
-MakesRounds limit j count = Makes limit (PrintsRounds bytes_of has_failed j count)
+abbrev pub MakesRounds : ℕ → ℕ → ℕ → List ℕ → Result Unit EditError → Writer → Writer → Type 0
+MakesRounds limit j count = Makes limit (PrintsRounds held write_failed j count)
 
 -- so of two files
-abbrev pub MakesJoint : ℕ → Pairing → List ℕ → List ℕ → Result Unit PairError → Memory → Memory
+abbrev pub MakesJoint : ℕ → Pairing → List ℕ → List ℕ → Result Unit PairError → Writer → Writer
     → Type 0
 MakesJoint limit pairing file other result w made =
-    ReadsBoth limit (PrintsJoint bytes_of has_failed pairing w made) first_verdict second_verdict
+    ReadsBoth limit (PrintsJoint held write_failed pairing w made) first_verdict second_verdict
     IsOwn file other result
-
--- what was checked of a justice property, by the bytes of one proof or of two
-abbrev pub ChecksLasso : ℕ → ℕ → ℕ → Bool → List ℕ → List ℕ → Result Unit LivenessError → Type 0
-ChecksLasso limit j k optimize file proof =
-    Reads limit (HasNoLasso limit j k optimize (Some proof)) verdict_of living.IsOwn file
-
-abbrev pub ChecksLassos : ℕ → ℕ → ℕ → Bool → List ℕ → List ℕ → Result Unit LivenessError → Type 0
-ChecksLassos limit j k optimize file proof result =
-    On (Some proof) (λ p used.
-    Reads limit (HasNoLassoTo bytes_of limit j k optimize p used) verdict_of living.IsOwn file
-    result)
-
-abbrev pub ChecksRuns : ℕ → ℕ → ℕ → Window → Bool → Bool → List ℕ → List ℕ → List ℕ
-    → Result Unit LivenessError → Type 0
-ChecksRuns limit j k form base_optimize step_optimize file base step result =
-    On (Some base) (λ p used. On (Some step) (λ q spent.
-    Reads limit (HasNoRun bytes_of bytes_of limit j k base_optimize form step_optimize p used q)
-    verdict_of living.IsOwn file result))
 
 -- ---- witnesses
 
 -- what a witness shows of a file's machine, or why it shows nothing: of a bad state
-pub record ShowsBad (limit : ℕ) (r rest w : Memory) (used : Memory)
+pub record ShowsBad (limit : ℕ) (r rest w used : Reader)
     (result : Result Shown ShowError) : Type 0 where
   pub answer : IfOk result
       (IsReadAs (λ bytes. Accepts bytes limit) (ShowsNext (bytes_of w)) (bytes_of r)
@@ -190,7 +141,7 @@ pub record ShowsBad (limit : ℕ) (r rest w : Memory) (used : Memory)
       (showing.Refuses limit (bytes_of r) (bytes_of rest) (bytes_of w) (has_failed used))
 
 -- or of what it says
-pub record ShowsEither (limit : ℕ) (r rest w : Memory) (used : Memory)
+pub record ShowsEither (limit : ℕ) (r rest w used : Reader)
     (result : Result ShownProperty ClaimError) : Type 0 where
   pub answer : IfOk result
       (IsReadAs (λ bytes. Accepts bytes limit) (ShowsClaim (bytes_of w)) (bytes_of r)
@@ -201,7 +152,7 @@ pub record ShowsEither (limit : ℕ) (r rest w : Memory) (used : Memory)
       (claiming.RefusesClaim limit (bytes_of r) (bytes_of rest) (bytes_of w) (has_failed used))
 
 -- the clauses of a file's query were listed
-pub record Lists (limit k : ℕ) (optimize : Bool) (r rest : Memory)
+pub record Lists (limit k : ℕ) (optimize : Bool) (r rest : Reader)
     (result : Result Listing AnswerError) : Type 0 where
   pub answer : IfOk result
       (IsReadAs (IsAsked limit k) (IsListing k optimize) (bytes_of r) (bytes_of rest))
@@ -266,10 +217,10 @@ GivesListing (Err e) status old new before needed had variables had_len clauses_
     × (clauses_len ≡ had_len)
 
 -- the text that a writer holds then that held nothing, where there is no error
-abbrev pub Prints : {E : Type 0} → (Result Unit E → Memory → Memory → Type 0)
+abbrev pub Prints : {E : Type 0} → (Result Unit E → Writer → Writer → Type 0)
     → Result (List ℕ) E → Type 0
-Prints Does (Ok text) = Into text (Does (Ok tt))
-Prints Does (Err e) = Unseen (Does (Err e))
+Prints Does (Ok text) = Into (λ w made. (held made ≡ Some text) × Does (Ok tt) w made)
+Prints Does (Err e) = Into (Does (Err e))
 
 -- a call for step K refuses a K of 2^32 or more, and then changes nothing
 abbrev pub AtStep : ℕ → ℕ → Type 0 → Type 0 → Type 0

@@ -1,25 +1,39 @@
 -- Part of what is promised.
--- Bytes in the caller's memory, as those who read and write them see them.
-use Rattle.std.specs.Prelude.{◌≡◌, ℕ, Bool, List, [], Option, Some}
+-- Readers and writers of bytes in the caller's memory.
+use Rattle.std.specs.Borrow.{Bor}
+use Rattle.std.specs.Prelude.{◌≡◌, ℕ, Bool, List, [], Option, Some, Vec}
+use Rattle.std.specs.declared.alloc.Global.{Global}
+use Rattle.aig_base.specs.declared.std_stream.FromRead.{FromRead}
+use Rattle.aig_base.specs.declared.std_stream.ToWrite.{ToWrite}
 
--- the bytes that a reader has left, or that a writer holds, and whether a call of it failed
-abbrev pub Memory : Type 0
-Memory = Option (List ℕ) × Bool
+-- a reader of the caller's bytes
+abbrev pub Reader : Type 0
+Reader = FromRead (Bor (List ℕ))
 
-abbrev pub bytes_of : Memory → Option (List ℕ)
-bytes_of m = m.0
+-- the bytes that it has left
+abbrev pub bytes_of : Reader → Option (List ℕ)
+bytes_of r = Some r.inner.now
 
-abbrev pub has_failed : Memory → Bool
-has_failed m = m.1
+-- whether a read of it failed
+abbrev pub has_failed : Reader → Bool
+has_failed r = r.failed
 
--- this holds of a reader, or a writer, that begins with these bytes: before and after
-abbrev pub On : Option (List ℕ) → (Memory → Memory → Type 0) → Type 0
-On bytes Does = (old : Memory) × (new : Memory) × (bytes_of old ≡ bytes) × Does old new
+-- a writer of what is given to the caller
+abbrev pub Writer : Type 0
+Writer = ToWrite (Vec ℕ Global)
 
--- what is written is seen by nobody
-abbrev pub Unseen : (Memory → Memory → Type 0) → Type 0
-Unseen Does = (old : Memory) × (new : Memory) × Does old new
+-- the bytes that it holds
+abbrev pub held : Writer → Option (List ℕ)
+held w = Some w.inner.items
 
--- this is all that a writer holds that held nothing
-abbrev pub Into : List ℕ → (Memory → Memory → Type 0) → Type 0
-Into text Does = On (Some []) (λ old new. (bytes_of new ≡ Some text) × Does old new)
+-- whether a write to it failed
+abbrev pub write_failed : Writer → Bool
+write_failed w = w.failed
+
+-- this is done with a reader of these bytes, as it is before and after
+abbrev pub On : List ℕ → (Reader → Reader → Type 0) → Type 0
+On bytes Does = (old : Reader) × (new : Reader) × (bytes_of old ≡ Some bytes) × Does old new
+
+-- this is done with a writer that holds nothing before
+abbrev pub Into : (Writer → Writer → Type 0) → Type 0
+Into Does = (old : Writer) × (new : Writer) × (held old ≡ Some []) × Does old new

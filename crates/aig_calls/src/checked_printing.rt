@@ -1,8 +1,7 @@
 //! Calls that give what a command of `aigcheck` prints of a file.
 
-ghost use Rattle.std.specs.Prelude.{None, Some};
 ghost use Rattle.aig_check_commands.specs.declared.command.FileCommand.TheVariants as commands;
-ghost use Rattle.aig_calls.specs.Calls.{GivesAt, Prints, RunsOn, form_of};
+ghost use Rattle.aig_calls.specs.Calls.{GivesAt, Prints, RunsAlone, RunsOn, form_of};
 ghost use Rattle.aig_calls.specs.Statuses.{check_status};
 
 use crate::buffer::put;
@@ -25,8 +24,8 @@ pub extern "C" fn aig_clauses(
     out: &mut [u8],
     needed: &mut usize,
 ) -> u32
-    ensures { GivesAt k check_status (Prints (RunsOn LIMIT (commands.Clauses k optimize) file.now
-        None)) result out.old out.new needed.old needed.new }
+    ensures { GivesAt k check_status (Prints (RunsAlone LIMIT (commands.Clauses k optimize)
+        file.now)) result out.old out.new needed.old needed.new }
 {
     match step_of(k) {
         Ok(k) => {
@@ -51,8 +50,8 @@ pub extern "C" fn aig_window(
     out: &mut [u8],
     needed: &mut usize,
 ) -> u32
-    ensures { GivesAt k check_status (Prints (RunsOn LIMIT (commands.Window k (form_of distinct)
-        optimize) file.now None)) result out.old out.new needed.old needed.new }
+    ensures { GivesAt k check_status (Prints (RunsAlone LIMIT (commands.Window k (form_of
+        distinct) optimize) file.now)) result out.old out.new needed.old needed.new }
 {
     match step_of(k) {
         Ok(k) => {
@@ -77,8 +76,8 @@ pub extern "C" fn aig_bounded(
     out: &mut [u8],
     needed: &mut usize,
 ) -> u32
-    ensures { GivesAt k check_status (Prints (RunsOn LIMIT (commands.Bounded k optimize) file.now
-        None)) result out.old out.new needed.old needed.new }
+    ensures { GivesAt k check_status (Prints (RunsAlone LIMIT (commands.Bounded k optimize)
+        file.now)) result out.old out.new needed.old needed.new }
 {
     match step_of(k) {
         Ok(k) => {
@@ -104,7 +103,7 @@ pub extern "C" fn aig_witness(
     needed: &mut usize,
 ) -> u32
     ensures { GivesAt k check_status (Prints (RunsOn LIMIT (commands.Witness k optimize) file.now
-        (Some solution.now))) result out.old out.new needed.old needed.new }
+        solution.now)) result out.old out.new needed.old needed.new }
 {
     match step_of(k) {
         Ok(k) => {
@@ -139,7 +138,7 @@ pub extern "C" fn aig_witness_to(
     needed: &mut usize,
 ) -> u32
     ensures { GivesAt k check_status (Prints (RunsOn LIMIT (commands.WitnessTo k optimize) file.now
-        (Some solution.now))) result out.old out.new needed.old needed.new }
+        solution.now)) result out.old out.new needed.old needed.new }
 {
     match step_of(k) {
         Ok(k) => {

@@ -1,16 +1,14 @@
 //! Calls that check proofs about a file.
 
-ghost use Rattle.std.specs.Prelude.{Some};
-ghost use Rattle.aig_check_commands.specs.declared.command.FileCommand.TheVariants as commands;
-ghost use Rattle.aig_calls.specs.Calls.{ChecksAt, RunsOn, RunsOnSafe, form_of};
-ghost use Rattle.aig_calls.specs.Memory.{Unseen};
-ghost use Rattle.aig_calls.specs.Statuses.{check_status};
+ghost use Rattle.aig_calls.specs.Calls.{ChecksAt, form_of};
+ghost use Rattle.aig_calls.specs.Checking.{ChecksBounded, ChecksSafe, ChecksStep, ChecksWindow};
+ghost use Rattle.aig_calls.specs.Statuses.{answer_status, bounded_status, safety_status};
 
 use crate::status::status_of;
 use crate::steps::{step_of, window_form};
+use aig_answers::{check_bounded, check_safe, check_step, check_window};
 use aig_base::FromRead;
-use aig_check_commands::{print_inductive, print_refuted, print_refuted_to, print_safe};
-use aig_command_line::Discarded;
+use aig_runs::inductive_windows_are_safe;
 use aig_tool_commands::LIMIT;
 use std::alloc::Global;
 
@@ -24,18 +22,16 @@ pub extern "C" fn aig_check_refuted(
     optimize: bool,
     proof: &[u8],
 ) -> u32
-    ensures { ChecksAt k check_status (λ done. Unseen (RunsOn LIMIT (commands.Refuted k optimize)
-        file.now (Some proof.now) done)) result }
+    ensures { ChecksAt k answer_status (ChecksStep LIMIT k optimize file.now proof.now) result }
 {
     match step_of(k) {
-        Ok(k) => status_of(print_refuted(
+        Ok(k) => status_of(check_step(
             alloc,
+            &mut FromRead::new(file),
             LIMIT,
             k,
             optimize,
-            &mut FromRead::new(file),
             &mut FromRead::new(proof),
-            &mut Discarded,
         )),
         Err(status) => status,
     }
@@ -51,18 +47,16 @@ pub extern "C" fn aig_check_refuted_to(
     optimize: bool,
     proof: &[u8],
 ) -> u32
-    ensures { ChecksAt k check_status (λ done. Unseen (RunsOn LIMIT (commands.RefutedTo k optimize)
-        file.now (Some proof.now) done)) result }
+    ensures { ChecksAt k bounded_status (ChecksBounded LIMIT k optimize file.now proof.now) result }
 {
     match step_of(k) {
-        Ok(k) => status_of(print_refuted_to(
+        Ok(k) => status_of(check_bounded(
             alloc,
+            &mut FromRead::new(file),
             LIMIT,
             k,
             optimize,
-            &mut FromRead::new(file),
             &mut FromRead::new(proof),
-            &mut Discarded,
         )),
         Err(status) => status,
     }
@@ -79,19 +73,19 @@ pub extern "C" fn aig_check_inductive(
     optimize: bool,
     proof: &[u8],
 ) -> u32
-    ensures { ChecksAt k check_status (λ done. Unseen (RunsOn LIMIT (commands.Inductive k (form_of
-        distinct) optimize) file.now (Some proof.now) done)) result }
+    ensures { ChecksAt k answer_status (ChecksWindow LIMIT k (form_of distinct) optimize file.now
+        proof.now) result }
 {
+    inductive_windows_are_safe();
     match step_of(k) {
-        Ok(k) => status_of(print_inductive(
+        Ok(k) => status_of(check_window(
             alloc,
+            &mut FromRead::new(file),
             LIMIT,
             k,
-            window_form(distinct),
             optimize,
-            &mut FromRead::new(file),
+            window_form(distinct),
             &mut FromRead::new(proof),
-            &mut Discarded,
         )),
         Err(status) => status,
     }
@@ -110,21 +104,20 @@ pub extern "C" fn aig_check_safe(
     step_optimize: bool,
     step: &[u8],
 ) -> u32
-    ensures { ChecksAt k check_status (λ done. Unseen (RunsOnSafe LIMIT k (form_of distinct)
-        base_optimize step_optimize file.now base.now step.now done)) result }
+    ensures { ChecksAt k safety_status (ChecksSafe LIMIT k (form_of distinct) base_optimize
+        step_optimize file.now base.now step.now) result }
 {
     match step_of(k) {
-        Ok(k) => status_of(print_safe(
+        Ok(k) => status_of(check_safe(
             alloc,
+            &mut FromRead::new(file),
             LIMIT,
             k,
-            window_form(distinct),
             base_optimize,
-            step_optimize,
-            &mut FromRead::new(file),
             &mut FromRead::new(base),
+            window_form(distinct),
+            step_optimize,
             &mut FromRead::new(step),
-            &mut Discarded,
         )),
         Err(status) => status,
     }

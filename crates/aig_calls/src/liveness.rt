@@ -1,6 +1,7 @@
 //! Calls that check proofs that a file has no fair lasso or no fair run.
 
-ghost use Rattle.aig_calls.specs.Calls.{ChecksAt, ChecksLasso, ChecksLassos, ChecksRuns, form_of};
+ghost use Rattle.aig_calls.specs.Calls.{ChecksAt, form_of};
+ghost use Rattle.aig_calls.specs.Checking.{ChecksLasso, ChecksLassos, ChecksRuns};
 ghost use Rattle.aig_calls.specs.Statuses.{live_status};
 
 use crate::status::status_of;

@@ -1,6 +1,6 @@
 //! A call that gives the clauses of a query as numbers, and which literals stand for what.
 
-ghost use Rattle.std.specs.Prelude.{◌≡◌, ◌-◌, ◌<◌, ◌≤◌, ◌++◌, ◌^◌, All, IfOk, OnOk, Result, Some, length};
+ghost use Rattle.std.specs.Prelude.{◌≡◌, ◌-◌, ◌<◌, ◌≤◌, ◌++◌, ◌^◌, All, IfOk, OnOk, Result, length};
 ghost use Rattle.std.specs.List.{flat_map};
 ghost use Rattle.aig_answers.specs.declared.error.AnswerError.{AnswerError};
 ghost use Rattle.aig_base.specs.Clauses.{AreBelow, variable_of};
@@ -99,7 +99,7 @@ fn list(alloc: Global, asked: &Query, k: usize) -> Result<Listed, MemoryError>
 /// Lists the clauses and the map of the query of a file for step `k`.
 fn ask(alloc: Global, file: &[u8], k: usize, optimize: bool) -> Result<Listed, AnswerError>
     requires { k < 2 ^ 32 }
-    ensures { On (Some file.now) (λ r rest. Lists LIMIT k optimize r rest (listing_in result)) }
+    ensures { On file.now (λ r rest. Lists LIMIT k optimize r rest (listing_in result)) }
 {
     let mut source = FromRead::new(file);
     let asked = read_query(alloc, &mut source, LIMIT, k, optimize)?;
@@ -143,7 +143,7 @@ pub extern "C" fn aig_query_numbers(
 ) -> u32
     ensures { let kept = (out.new ≡ out.old) × (needed.new ≡ needed.old) × (variables.new ≡
         variables.old) × (clauses_len.new ≡ clauses_len.old) in AtStep k result kept ((listed :
-        Result Listing AnswerError) × On (Some file.now) (λ r rest. Lists LIMIT k optimize r rest
+        Result Listing AnswerError) × On file.now (λ r rest. Lists LIMIT k optimize r rest
         listed) × GivesListing listed result out.old out.new needed.old needed.new variables.old
         variables.new clauses_len.old clauses_len.new) }
 {

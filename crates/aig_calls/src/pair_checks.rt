@@ -1,20 +1,16 @@
 //! Calls that check proofs about two files.
 
-ghost use Rattle.std.specs.Prelude.{None, Some};
-ghost use Rattle.aig_check_commands.specs.declared.command.PairCommand.TheVariants as commands;
 ghost use Rattle.aig_simulated.specs.Simulated.{proofs_of};
-ghost use Rattle.aig_calls.specs.Calls.{Checks, ChecksAt, RunsOnMiter, RunsOnPair, RunsOnWitness, form_of};
-ghost use Rattle.aig_calls.specs.Memory.{Unseen};
-ghost use Rattle.aig_calls.specs.Statuses.{check_status};
+ghost use Rattle.aig_calls.specs.Calls.{Checks, ChecksAt, form_of};
+ghost use Rattle.aig_calls.specs.Checking.{ChecksAlwaysEqual, ChecksCertificate, ChecksEqual, ChecksEqualBy, ChecksWitness};
+ghost use Rattle.aig_calls.specs.Statuses.{certificate_status, equality_status, miter_status, simulation_status};
 
 use crate::pairs::COMPARISON;
 use crate::status::status_of;
 use crate::steps::{step_of, window_form};
+use aig_answers::{check_always_equal, check_certified, check_equal, check_equal_by};
 use aig_base::FromRead;
-use aig_check_commands::{
-    CheckError, print_always_equal, print_certified, print_equal, print_equal_by, print_simulated,
-};
-use aig_command_line::Discarded;
+use aig_simulated::{SimulationError, check_simulated};
 use aig_tool_commands::LIMIT;
 use std::alloc::Global;
 
@@ -29,18 +25,17 @@ pub extern "C" fn aig_check_certified(
     base: &[u8],
     step: &[u8],
 ) -> u32
-    ensures { Checks check_status (λ done. Unseen (RunsOnPair LIMIT (commands.Certified optimize)
-        file.now certificate.now (Some base.now) (Some step.now) done)) result }
+    ensures { Checks certificate_status (ChecksCertificate LIMIT optimize file.now certificate.now
+        base.now step.now) result }
 {
-    status_of(print_certified(
+    status_of(check_certified(
         alloc,
-        LIMIT,
-        optimize,
         &mut FromRead::new(file),
         &mut FromRead::new(certificate),
+        LIMIT,
+        optimize,
         &mut FromRead::new(base),
         &mut FromRead::new(step),
-        &mut Discarded,
     ))
 }
 
@@ -55,29 +50,21 @@ fn simulate<'a>(
     property: &'a [u8],
     base: &'a [u8],
     step: &'a [u8],
-) -> Result<(), CheckError>
+) -> Result<(), SimulationError>
     ensures { let given = proofs_of reset.now transition.now property.now base.now step.now in
-        Unseen (RunsOnWitness LIMIT optimize file.now witness.now given result) }
+        ChecksWitness LIMIT optimize file.now witness.now given result }
 {
-    let mut first = FromRead::new(file);
-    let mut second = FromRead::new(witness);
-    let mut reset_lines = FromRead::new(reset);
-    let mut transition_lines = FromRead::new(transition);
-    let mut property_lines = FromRead::new(property);
-    let mut base_lines = FromRead::new(base);
-    let mut step_lines = FromRead::new(step);
-    print_simulated(
+    check_simulated(
         alloc,
+        &mut FromRead::new(file),
+        &mut FromRead::new(witness),
         LIMIT,
         optimize,
-        &mut first,
-        &mut second,
-        &mut reset_lines,
-        &mut transition_lines,
-        &mut property_lines,
-        &mut base_lines,
-        &mut step_lines,
-        &mut Discarded,
+        &mut FromRead::new(reset),
+        &mut FromRead::new(transition),
+        &mut FromRead::new(property),
+        &mut FromRead::new(base),
+        &mut FromRead::new(step),
     )
 }
 
@@ -96,8 +83,7 @@ pub extern "C" fn aig_check_simulated(
     step: &[u8],
 ) -> u32
     ensures { let given = proofs_of reset.now transition.now property.now base.now step.now in
-        Checks check_status (λ done. Unseen (RunsOnWitness LIMIT optimize file.now witness.now given
-        done)) result }
+        Checks simulation_status (ChecksWitness LIMIT optimize file.now witness.now given) result }
 {
     status_of(simulate(
         alloc, file, witness, optimize, reset, transition, property, base, step,
@@ -115,20 +101,19 @@ pub extern "C" fn aig_check_equal(
     optimize: bool,
     proof: &[u8],
 ) -> u32
-    ensures { ChecksAt k check_status (λ done. Unseen (RunsOnPair LIMIT (commands.Equal COMPARISON k
-        optimize) file.now other.now (Some proof.now) None done)) result }
+    ensures { ChecksAt k certificate_status (ChecksEqual LIMIT k optimize file.now other.now
+        proof.now) result }
 {
     match step_of(k) {
-        Ok(k) => status_of(print_equal(
+        Ok(k) => status_of(check_equal(
             alloc,
-            LIMIT,
-            COMPARISON,
-            k,
-            optimize,
             &mut FromRead::new(file),
             &mut FromRead::new(other),
+            COMPARISON,
+            LIMIT,
+            k,
+            optimize,
             &mut FromRead::new(proof),
-            &mut Discarded,
         )),
         Err(status) => status,
     }
@@ -148,24 +133,22 @@ pub extern "C" fn aig_check_always_equal(
     step_optimize: bool,
     step: &[u8],
 ) -> u32
-    ensures { ChecksAt k check_status (λ done. Unseen (RunsOnPair LIMIT (commands.AlwaysEqual
-        COMPARISON k (form_of distinct) base_optimize step_optimize) file.now other.now
-        (Some base.now) (Some step.now) done)) result }
+    ensures { ChecksAt k equality_status (ChecksAlwaysEqual LIMIT k (form_of distinct) base_optimize
+        step_optimize file.now other.now base.now step.now) result }
 {
     match step_of(k) {
-        Ok(k) => status_of(print_always_equal(
+        Ok(k) => status_of(check_always_equal(
             alloc,
-            LIMIT,
-            COMPARISON,
-            k,
-            window_form(distinct),
-            base_optimize,
-            step_optimize,
             &mut FromRead::new(file),
             &mut FromRead::new(other),
+            COMPARISON,
+            LIMIT,
+            k,
+            base_optimize,
             &mut FromRead::new(base),
+            window_form(distinct),
+            step_optimize,
             &mut FromRead::new(step),
-            &mut Discarded,
         )),
         Err(status) => status,
     }
@@ -183,19 +166,18 @@ pub extern "C" fn aig_check_equal_by(
     base: &[u8],
     step: &[u8],
 ) -> u32
-    ensures { Checks check_status (λ done. Unseen (RunsOnMiter LIMIT optimize file.now other.now
-        certificate.now base.now step.now done)) result }
+    ensures { Checks miter_status (ChecksEqualBy LIMIT optimize file.now other.now certificate.now
+        base.now step.now) result }
 {
-    status_of(print_equal_by(
+    status_of(check_equal_by(
         alloc,
-        LIMIT,
-        COMPARISON,
-        optimize,
         &mut FromRead::new(file),
         &mut FromRead::new(other),
+        COMPARISON,
         &mut FromRead::new(certificate),
+        LIMIT,
+        optimize,
         &mut FromRead::new(base),
         &mut FromRead::new(step),
-        &mut Discarded,
     ))
 }

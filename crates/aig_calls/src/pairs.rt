@@ -1,6 +1,5 @@
 //! Calls that give the text of a circuit made of two files, or of its clauses.
 
-ghost use Rattle.std.specs.Prelude.{None};
 ghost use Rattle.aig_check_commands.specs.declared.command.PairCommand.TheVariants as commands;
 ghost use Rattle.aig_edits.specs.declared.pairing.Pairing.TheVariants.{Certificate, Merge, Miter};
 ghost use Rattle.aig_calls.specs.Calls.{GivesResult, MakesJoint, Prints, RunsOnPair};
@@ -98,9 +97,8 @@ pub extern "C" fn aig_obligations(
     out: &mut [u8],
     needed: &mut usize,
 ) -> u32
-    ensures { GivesResult check_status (Prints
-        (RunsOnPair LIMIT (commands.Obligations optimize) file.now
-        certificate.now None None)) result out.old out.new needed.old needed.new }
+    ensures { GivesResult check_status (Prints (RunsOnPair LIMIT (commands.Obligations optimize)
+        file.now certificate.now)) result out.old out.new needed.old needed.new }
 {
     let first = FromRead::new(file);
     let second = FromRead::new(certificate);

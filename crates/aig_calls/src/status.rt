@@ -501,6 +501,54 @@ impl HasNumber for AnswerError {
     }
 }
 
+impl HasNumber for BoundedAnswerError {
+    ghost number = { bounded_status };
+
+    fn number(self) -> u32 {
+        of_bounded(self)
+    }
+}
+
+impl HasNumber for SafetyError {
+    ghost number = { safety_status };
+
+    fn number(self) -> u32 {
+        of_safety(self)
+    }
+}
+
+impl HasNumber for CertificateError {
+    ghost number = { certificate_status };
+
+    fn number(self) -> u32 {
+        of_certificate(self)
+    }
+}
+
+impl HasNumber for EqualityError {
+    ghost number = { equality_status };
+
+    fn number(self) -> u32 {
+        of_equality(self)
+    }
+}
+
+impl HasNumber for MiterError {
+    ghost number = { miter_status };
+
+    fn number(self) -> u32 {
+        of_miter(self)
+    }
+}
+
+impl HasNumber for SimulationError {
+    ghost number = { simulation_status };
+
+    fn number(self) -> u32 {
+        of_simulation(self)
+    }
+}
+
 impl HasNumber for ShowError {
     ghost number = { show_status };
 

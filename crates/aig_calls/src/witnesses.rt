@@ -1,6 +1,6 @@
 //! Calls that check witnesses.
 
-ghost use Rattle.std.specs.Prelude.{◌≡◌, ◌≤◌, Some, Result};
+ghost use Rattle.std.specs.Prelude.{◌≡◌, ◌≤◌, Result};
 ghost use Rattle.aig_witness.specs.declared.fair.file.ClaimError.{ClaimError};
 ghost use Rattle.aig_witness.specs.declared.fair.file.ShownProperty.{ShownProperty};
 ghost use Rattle.aig_witness.specs.declared.file.ShowError.{ShowError};
@@ -16,7 +16,7 @@ use std::alloc::Global;
 
 /// What a witness shows of a file's machine: a bad state.
 fn show_bad(alloc: Global, file: &[u8], witness: &[u8]) -> Result<Shown, ShowError>
-    ensures { On (Some file.now) (λ r rest. On (Some witness.now) (λ w used. ShowsBad LIMIT r rest w
+    ensures { On file.now (λ r rest. On witness.now (λ w used. ShowsBad LIMIT r rest w
         used result)) }
 {
     let mut source = FromRead::new(file);
@@ -26,7 +26,7 @@ fn show_bad(alloc: Global, file: &[u8], witness: &[u8]) -> Result<Shown, ShowErr
 
 /// What a witness shows of it: a bad state, or a fair lasso.
 fn show_either(alloc: Global, file: &[u8], witness: &[u8]) -> Result<ShownProperty, ClaimError>
-    ensures { On (Some file.now) (λ r rest. On (Some witness.now) (λ w used. ShowsEither LIMIT r
+    ensures { On file.now (λ r rest. On witness.now (λ w used. ShowsEither LIMIT r
         rest w used result)) }
 {
     let mut source = FromRead::new(file);
@@ -44,7 +44,7 @@ pub extern "C" fn aig_check_run(
     bad: &mut usize,
     step: &mut usize,
 ) -> u32
-    ensures { (shown : Result Shown ShowError) × On (Some file.now) (λ r rest. On (Some witness.now)
+    ensures { (shown : Result Shown ShowError) × On file.now (λ r rest. On witness.now
         (λ w used. ShowsBad LIMIT r rest w used shown)) × TellsBad shown result bad.old bad.new
         step.old step.new }
 {
@@ -69,8 +69,8 @@ pub extern "C" fn aig_check_lasso(
     start: &mut usize,
     last: &mut usize,
 ) -> u32
-    ensures { (shown : Result ShownProperty ClaimError) × On (Some file.now) (λ r rest. On (Some
-        witness.now) (λ w used. ShowsEither LIMIT r rest w used shown)) × TellsLasso shown result
+    ensures { (shown : Result ShownProperty ClaimError) × On file.now (λ r rest. On
+        witness.now (λ w used. ShowsEither LIMIT r rest w used shown)) × TellsLasso shown result
         justice.old justice.new start.old start.new last.old last.new }
 {
     match show_either(alloc, file, witness) {

@@ -1,9 +1,8 @@
-use Rattle.std.proofs.Common.{None}
 use Rattle.aig_check_commands.specs.declared.command.FileCommand.TheVariants as commands
 use Rattle.aig_tool_commands.specs.declared.tool.TheConstants.{LIMIT}
-use Rattle.aig_calls.specs.Calls.{RunsOn}
+use Rattle.aig_calls.specs.Calls.{RunsAlone}
 use Rattle.aig_calls.specs.Listings.{text_in}
-use Rattle.aig_calls.proofs.Seen.{alone, at_step, printed}
+use Rattle.aig_calls.proofs.Given.{at_step, on, printed}
 use Rattle.aig_calls.proofs.checked_printing.aig_window.Goals as goal
 
 pub returns-in-Ok : goal.returns-in-Ok
@@ -11,9 +10,9 @@ returns-in-Ok c =
     let step = c.in-Ok.ensures.ok in
     let run = c.print_window-done in
     let sink = c.new-sink in
-    let text = printed (RunsOn LIMIT (commands.Window c.in-Ok.k c.window_form-form.result
-    c.args.optimize) c.args.file.now None) sink.result run.new.w run.result sink.ensures.writer
-    c.new.ensures.items (alone c.new-source.result run.ensures.0 c.new-source.ensures.reader
+    let text = printed (RunsAlone LIMIT (commands.Window c.in-Ok.k c.window_form-form.result
+    c.args.optimize) c.args.file.now) sink.result run.new.w run.result sink.ensures.writer
+    c.new.ensures.items (on c.new-source.result run.ensures.0 c.new-source.ensures.reader
     run.ensures.1) in
     rw (← step.0, ← c.window_form-form.ensures) (at_step step (
       text_in run.result

@@ -1,9 +1,8 @@
-use Rattle.std.proofs.Common.{Some}
 use Rattle.aig_check_commands.specs.declared.command.FileCommand.TheVariants as commands
 use Rattle.aig_tool_commands.specs.declared.tool.TheConstants.{LIMIT}
 use Rattle.aig_calls.specs.Calls.{RunsOn}
 use Rattle.aig_calls.specs.Listings.{text_in}
-use Rattle.aig_calls.proofs.Seen.{at_step, on, printed, runs_seen}
+use Rattle.aig_calls.proofs.Given.{at_step, on, printed}
 use Rattle.aig_calls.proofs.checked_printing.aig_witness.Goals as goal
 
 pub returns-in-Ok : goal.returns-in-Ok
@@ -12,7 +11,7 @@ returns-in-Ok c =
     let run = c.print_witness-done in
     let sink = c.new-sink in
     let text = printed (RunsOn LIMIT (commands.Witness c.in-Ok.k c.args.optimize) c.args.file.now
-    (Some c.args.solution.now)) sink.result run.new.w run.result sink.ensures.writer
+    c.args.solution.now) sink.result run.new.w run.result sink.ensures.writer
     c.new.ensures.items (on c.new-source.result run.new.r c.new-source.ensures.reader (on
-    c.new-answer.result run.new.solution c.new-answer.ensures.reader (runs_seen run.ensures))) in
+    c.new-answer.result run.new.solution c.new-answer.ensures.reader run.ensures)) in
     rw (← step.0) (at_step step (text_in run.result run.new.w.inner.items, text, c.put.ensures))

@@ -1,10 +1,18 @@
-use Rattle.aig_calls.proofs.Seen.{at_step, nobody, on, runs_seen}
+use Rattle.aig_calls.proofs.Given.{at_step, on}
 use Rattle.aig_calls.proofs.checks.aig_check_refuted_to.Goals as goal
 
 pub returns-in-Ok : goal.returns-in-Ok
 returns-in-Ok c =
     let step = c.in-Ok.ensures.ok in
-    let run = c.print_refuted_to in
-    let checked = on c.new.result run.new.r c.new.ensures.reader (on c.new-in-Ok.result
-    run.new.proof c.new-in-Ok.ensures.reader (runs_seen run.ensures)) in
-    rw (← step.0) (at_step step (run.result, (nobody, nobody, checked), c.status_of.ensures))
+    let run = c.check_bounded in
+    let checked = on c.new-in-Ok.result run.new.proof c.new-in-Ok.ensures.reader (on c.new.result
+    run.new.r c.new.ensures.reader (
+      record {
+        verdict = run.ensures.verdict;
+        own = run.ensures.own;
+        safe = run.ensures.answer;
+        shown = run.ensures.shown;
+      },
+      run.ensures.large,
+    )) in
+    rw (← step.0) (at_step step (run.result, checked, c.status_of.ensures))

@@ -1,7 +1,7 @@
 use Rattle.aig_tool_commands.specs.declared.tool.TheConstants.{LIMIT}
 use Rattle.aig_calls.specs.Calls.{MakesQuestion}
 use Rattle.aig_calls.specs.Listings.{text_in}
-use Rattle.aig_calls.proofs.Seen.{at_step, file_seen, on, printed, question_seen}
+use Rattle.aig_calls.proofs.Given.{at_step, on, printed}
 use Rattle.aig_calls.proofs.edits.aig_question.Goals as goal
 
 pub returns-in-Ok : goal.returns-in-Ok
@@ -11,6 +11,5 @@ returns-in-Ok c =
     let sink = c.new-sink in
     let text = printed (MakesQuestion LIMIT c.in-Ok.k c.args.file.now) sink.result run.new.w
     run.result sink.ensures.writer c.new.ensures.items (on c.new-source.result run.new.r
-    c.new-source.ensures.reader (file_seen (λ f. question_seen sink.result run.new.w c.in-Ok.k LIMIT
-    f run.result) run.ensures.reads)) in
+    c.new-source.ensures.reader run.ensures.reads) in
     rw (← step.0) (at_step step (text_in run.result run.new.w.inner.items, text, c.put.ensures))

@@ -1,7 +1,7 @@
 use Rattle.aig_tool_commands.specs.declared.tool.TheConstants.{LIMIT}
 use Rattle.aig_calls.specs.Calls.{MakesEdit}
 use Rattle.aig_calls.specs.Listings.{text_in}
-use Rattle.aig_calls.proofs.Seen.{edit_seen, file_seen, on, printed}
+use Rattle.aig_calls.proofs.Given.{on, printed}
 use Rattle.aig_calls.proofs.edits.print_edit.Goals as goal
 
 pub returns : goal.returns
@@ -10,6 +10,5 @@ returns c =
     let sink = c.new-sink in
     let text = printed (MakesEdit LIMIT c.args.edit.now c.args.file.now) sink.result run.new.w
     run.result sink.ensures.writer c.new.ensures.items (on c.new-source.result run.new.r
-    c.new-source.ensures.reader (file_seen (λ f. edit_seen sink.result run.new.w c.args.edit.now
-    LIMIT f run.result) run.ensures.reads)) in
+    c.new-source.ensures.reader run.ensures.reads) in
     (text_in run.result run.new.w.inner.items, text, c.put.ensures)

@@ -1,5 +1,5 @@
 use Rattle.std.proofs.lemmas.Result.{err_from_is_err_and}
-use Rattle.aig_calls.proofs.Seen.{on, short}
+use Rattle.aig_calls.proofs.Given.{on, short}
 use Rattle.aig_calls.proofs.numbers.ask.Goals as goal
 
 pub returns-in_err-asked : goal.returns-in_err-asked

@@ -1,16 +1,16 @@
-use Rattle.aig_calls.proofs.Seen.{at_step, nobody, on, pair_seen}
+use Rattle.aig_calls.proofs.Given.{at_step, on}
 use Rattle.aig_calls.proofs.pair_checks.aig_check_always_equal.Goals as goal
 
 pub returns-in-Ok : goal.returns-in-Ok
 returns-in-Ok c =
     let step = c.in-Ok.ensures.ok in
-    let run = c.print_always_equal in
-    let checked = on c.new.result run.new.file c.new.ensures.reader (on c.new-in-Ok.result
-    run.new.other c.new-in-Ok.ensures.reader (on c.new-in-Ok-2.result run.new.base
-    c.new-in-Ok-2.ensures.reader (on c.new-in-Ok-3.result run.new.step c.new-in-Ok-3.ensures.reader
-    (pair_seen run.ensures)))) in
+    let run = c.check_always_equal in
+    let checked = on c.new-in-Ok-2.result run.new.base c.new-in-Ok-2.ensures.reader (on
+    c.new-in-Ok-3.result run.new.step c.new-in-Ok-3.ensures.reader (on c.new.result run.new.file
+    c.new.ensures.reader (on c.new-in-Ok.result run.new.other c.new-in-Ok.ensures.reader
+    run.ensures.reads))) in
     rw (← step.0, ← c.window_form.ensures) (at_step step (
       run.result,
-      (nobody, nobody, checked),
+      checked,
       c.status_of.ensures,
     ))

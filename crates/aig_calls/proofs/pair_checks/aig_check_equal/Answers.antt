@@ -1,12 +1,11 @@
-use Rattle.std.proofs.Common.{refl}
-use Rattle.aig_calls.proofs.Seen.{at_step, nobody, on, pair_seen}
+use Rattle.aig_calls.proofs.Given.{at_step, on}
 use Rattle.aig_calls.proofs.pair_checks.aig_check_equal.Goals as goal
 
 pub returns-in-Ok : goal.returns-in-Ok
 returns-in-Ok c =
     let step = c.in-Ok.ensures.ok in
-    let run = c.print_equal in
+    let run = c.check_equal in
     let checked = on c.new.result run.new.file c.new.ensures.reader (on c.new-in-Ok.result
-    run.new.other c.new-in-Ok.ensures.reader (on c.new-in-Ok-2.result run.new.proof
-    c.new-in-Ok-2.ensures.reader (nobody, nobody, refl, pair_seen run.ensures))) in
-    rw (← step.0) (at_step step (run.result, (nobody, nobody, checked), c.status_of.ensures))
+    run.new.other c.new-in-Ok.ensures.reader (rw c.new-in-Ok-2.ensures.reader at run.ensures.reads))
+    in
+    rw (← step.0) (at_step step (run.result, checked, c.status_of.ensures))

@@ -1,17 +1,20 @@
-use Rattle.aig_calls.proofs.Seen.{nobody, on, simulated_seen}
+use Rattle.aig_base.proofs.Words.{List, Option, subst, ℕ}
+use Rattle.aig_simulated.specs.Simulated.{Certifies, IsOwn, first_verdict, refusal_of}
+use Rattle.aig_simulated.specs.Witnesses.{ReadsWitness}
+use Rattle.aig_simulation.specs.declared.condition.Condition.{Condition}
+use Rattle.aig_calls.specs.Memory.{bytes_of, has_failed}
+use Rattle.aig_tool_commands.specs.declared.tool.TheConstants.{LIMIT}
+use Rattle.aig_calls.proofs.Given.{on, texts_of}
 use Rattle.aig_calls.proofs.pair_checks.simulate.Goals as goal
 
 pub returns : goal.returns
 returns c =
-    let new = c.print_simulated.new in (
-      nobody,
-      nobody,
-      (on c.new-first.result new.file c.new-first.ensures.reader
-          (on c.new-second.result new.witness c.new-second.ensures.reader
-          (on c.new-reset_lines.result new.reset c.new-reset_lines.ensures.reader
-          (on c.new-transition_lines.result new.transition c.new-transition_lines.ensures.reader
-          (on c.new-property_lines.result new.property c.new-property_lines.ensures.reader
-          (on c.new-base_lines.result new.base c.new-base_lines.ensures.reader
-          (on c.new-step_lines.result new.step c.new-step_lines.ensures.reader
-          (simulated_seen _ _ c.print_simulated.ensures)))))))),
-    )
+    let run = c.check_simulated in
+    let texts = texts_of c.new-3.result c.new-4.result c.new-5.result c.new-6.result c.new-7.result
+    c.new-3.ensures.reader c.new-4.ensures.reader c.new-5.ensures.reader c.new-6.ensures.reader
+    c.new-7.ensures.reader in
+    on c.new.result run.new.file c.new.ensures.reader (on c.new-2.result run.new.witness
+    c.new-2.ensures.reader (subst (λ (t : Condition → Option (List ℕ)).
+    ReadsWitness bytes_of has_failed bytes_of has_failed LIMIT (Certifies LIMIT c.args.optimize t)
+    first_verdict refusal_of IsOwn c.new.result c.new-2.result run.result run.new.file
+    run.new.witness) texts run.ensures.reads))

@@ -1,9 +1,8 @@
-use Rattle.std.proofs.Common.{None, refl}
 use Rattle.aig_check_commands.specs.declared.command.PairCommand.TheVariants as commands
 use Rattle.aig_tool_commands.specs.declared.tool.TheConstants.{LIMIT}
 use Rattle.aig_calls.specs.Calls.{RunsOnPair}
 use Rattle.aig_calls.specs.Listings.{text_in}
-use Rattle.aig_calls.proofs.Seen.{nobody, on, pair_seen, printed}
+use Rattle.aig_calls.proofs.Given.{on, printed}
 use Rattle.aig_calls.proofs.pairs.aig_obligations.Goals as goal
 
 pub returns : goal.returns
@@ -11,17 +10,7 @@ returns c =
     let run = c.print_obligations-done in
     let sink = c.new-sink in
     let text = printed (RunsOnPair LIMIT (commands.Obligations c.args.optimize) c.args.file.now
-    c.args.certificate.now None None) sink.result run.new.w run.result sink.ensures.writer
+    c.args.certificate.now) sink.result run.new.w run.result sink.ensures.writer
     c.new.ensures.items (on c.new-first.result run.ensures.0 c.new-first.ensures.reader (on
-    c.new-second.result run.ensures.1 c.new-second.ensures.reader (
-      nobody,
-      nobody,
-      refl,
-      (
-        nobody,
-        nobody,
-        refl,
-        pair_seen run.ensures.2,
-      ),
-    ))) in
+    c.new-second.result run.ensures.1 c.new-second.ensures.reader run.ensures.2)) in
     (text_in run.result run.new.w.inner.items, text, c.put.ensures)

@@ -1,7 +1,7 @@
 use Rattle.aig_tool_commands.specs.declared.tool.TheConstants.{LIMIT}
 use Rattle.aig_calls.specs.Calls.{MakesJoint}
 use Rattle.aig_calls.specs.Listings.{text_in}
-use Rattle.aig_calls.proofs.Seen.{both_seen, joint_seen, on, printed}
+use Rattle.aig_calls.proofs.Given.{on, printed}
 use Rattle.aig_calls.proofs.pairs.print_pair.Goals as goal
 
 pub returns : goal.returns
@@ -11,6 +11,5 @@ returns c =
     let text = printed (MakesJoint LIMIT c.args.pairing c.args.file.now c.args.other.now)
     sink.result run.new.w run.result sink.ensures.writer c.new.ensures.items (on c.new-first.result
     run.new.first c.new-first.ensures.reader (on c.new-second.result run.new.second
-    c.new-second.ensures.reader (both_seen (λ f g. joint_seen sink.result run.new.w c.args.pairing f
-    g run.result) run.ensures.reads))) in
+    c.new-second.ensures.reader run.ensures.reads)) in
     (text_in run.result run.new.w.inner.items, text, c.put.ensures)

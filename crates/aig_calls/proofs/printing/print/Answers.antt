@@ -1,7 +1,7 @@
 use Rattle.aig_tool_commands.specs.declared.tool.TheConstants.{LIMIT}
 use Rattle.aig_calls.specs.Calls.{RunsTool}
 use Rattle.aig_calls.specs.Listings.{text_in}
-use Rattle.aig_calls.proofs.Seen.{on, printed, tool_seen}
+use Rattle.aig_calls.proofs.Given.{on, printed}
 use Rattle.aig_calls.proofs.printing.print.Goals as goal
 
 pub returns : goal.returns
@@ -10,5 +10,5 @@ returns c =
     let sink = c.new-sink in
     let text = printed (RunsTool LIMIT c.args.c c.args.file.now) sink.result run.new.w run.result
     sink.ensures.writer c.new.ensures.items (on c.new-source.result run.new.r
-    c.new-source.ensures.reader (tool_seen run.ensures)) in
+    c.new-source.ensures.reader run.ensures) in
     (text_in run.result run.new.w.inner.items, text, c.put.ensures)

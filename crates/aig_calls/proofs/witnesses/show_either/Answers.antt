@@ -1,4 +1,4 @@
-use Rattle.aig_calls.proofs.Seen.{on}
+use Rattle.aig_calls.proofs.Given.{on}
 use Rattle.aig_calls.proofs.witnesses.show_either.Goals as goal
 
 pub returns : goal.returns

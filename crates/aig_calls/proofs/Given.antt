@@ -1,0 +1,93 @@
+-- What is done with readers and writers of the caller's memory is done with its bytes.
+use Rattle.std.proofs.Common.{Bor}
+use Rattle.aig_base.proofs.Words.{◌≡◌, ℕ, ◌<◌, ◌≤◌, ◌^◌, Bool, List, [], Option, Some, Result, Ok, Err, Vec, Global, refl, sym, ap, fun_ext, ◌∙◌, arith}
+use Rattle.aig_format.proofs.Words.{File}
+use Rattle.std.specs.Prelude.{IfOk}
+use Rattle.aig_reader.specs.Reading.{IsReadAs}
+use Rattle.aig_reader.specs.Verdicts.{Accepted, Judges, Short, Verdict}
+use Rattle.aig_simulated.specs.Simulated.{Proofs, proof_for, proofs_of}
+use Rattle.aig_simulation.specs.declared.condition.Condition.{Condition}
+use Rattle.aig_simulation.specs.declared.condition.Condition.TheVariants as conditions
+use Rattle.aig_calls.specs.Calls.{AtStep, Prints}
+use Rattle.aig_calls.specs.Listings.{text_in}
+use Rattle.aig_calls.specs.Memory.{On, Reader, Writer, bytes_of}
+
+-- something is done with a reader of these bytes
+pub on : (r rest : Reader) {bytes : Bor (List ℕ)} {Does : Reader → Reader → Type 0}
+    → r.inner ≡ bytes → Does r rest → On bytes.now Does
+on r rest same does = (r, rest, ap (λ (b : Bor (List ℕ)). Some b.now) same, does)
+
+-- what is done for a step whose number is below 2^32
+pub at_step : {step k status : ℕ} {Kept Does : Type 0} → (step ≡ k) × (k < 2 ^ 32) → Does
+    → AtStep step status Kept Does
+at_step is does = (λ many. absurd (omega (arith, is.0, is.1)), λ few. does)
+
+-- a writer that was made of no items holds none
+held_nothing : {inner v : Vec ℕ Global} → inner ≡ v → v.items ≡ []
+    → Some inner.items ≡ Some []
+held_nothing same none = ap (λ (x : Vec ℕ Global). Some x.items) same ∙ ap Some none
+
+-- a text was written into memory that held nothing, or there is none
+pub printed : {E : Type 0} {empty : Vec ℕ Global}
+    (Does : Result (Unit {0}) E → Writer → Writer → Type 0) (w made : Writer)
+    (result : Result (Unit {0}) E) → w.inner ≡ empty → empty.items ≡ [] → Does result w made
+    → Prints Does (text_in result made.inner.items)
+printed Does w made (Ok done) same none does = (w, made, held_nothing same none, (refl, does))
+printed Does w made (Err e) same none does = (w, made, held_nothing same none, does)
+
+-- a file that is taken, for which memory runs out then
+pub short : {of : File → Verdict} {limit : ℕ} {old new : Option (List ℕ)} {failed : Bool}
+    → Judges of limit old new failed Accepted → Judges of limit old new failed Short
+short taken = record {
+  exact = λ is. absurd is;
+  file = λ is.
+      let read = taken.file tt in
+      record {
+        bytes = read.bytes;
+        file = read.file;
+        taken = read.taken;
+        holds = read.holds;
+        means = sym read.means;
+      };
+  whole = λ is. taken.whole tt;
+  stream = λ is. cc;
+}
+
+-- of the file that is read, more follows
+pub also : {T E : Type 0} (Holds : List ℕ → File → Type 0) {P Q : File → Type 0}
+    (old new : Option (List ℕ)) (result : Result T E) → ((f : File) → P f → Q f)
+    → IfOk result (IsReadAs Holds (λ f x. P f) old new)
+    → IfOk result (IsReadAs Holds (λ f x. Q f) old new)
+also Holds old new (Ok x) so read = record {
+  bytes = read.bytes;
+  file = read.file;
+  taken = read.taken;
+  holds = read.holds;
+  means = so read.file read.means;
+}
+also Holds old new (Err e) so read = tt
+
+-- the texts of proofs: what their readers have left, or what is known
+abbrev left_of : Proofs Reader → Condition → Option (List ℕ)
+left_of proofs condition = bytes_of (proof_for proofs condition)
+
+abbrev known : Proofs (List ℕ) → Condition → Option (List ℕ)
+known proofs condition = Some (proof_for proofs condition)
+
+-- they are the bytes that the readers are of
+pub texts_of : (a b c d e : Reader) {v w x y z : Bor (List ℕ)} → a.inner ≡ v → b.inner ≡ w
+    → c.inner ≡ x → d.inner ≡ y → e.inner ≡ z
+    → left_of (proofs_of a b c d e) ≡ known (proofs_of v.now w.now x.now y.now z.now)
+texts_of a b c d e {v} {w} {x} {y} {z} for_a for_b for_c for_d for_e = fun_ext each
+  where
+    text : Bor (List ℕ) → Option (List ℕ)
+    text bytes = Some bytes.now
+
+    each : (condition : Condition)
+        → left_of (proofs_of a b c d e) condition
+        ≡ known (proofs_of v.now w.now x.now y.now z.now) condition
+    each conditions.Reset = ap text for_a
+    each conditions.Transition = ap text for_b
+    each conditions.Property = ap text for_c
+    each conditions.Base = ap text for_d
+    each conditions.Step = ap text for_e
