@@ -14,7 +14,7 @@ import time
 from machines import MACHINES
 from measuring import CHECK, DESIGNS, heads, new_folder, parser, row, run
 
-from aigprove.questions import ASSUMING, are_in_conflict, in_turn
+from aigprove.questions.solver import ASSUMING, are_in_conflict, in_turn
 
 # The status of `timeout` where a program takes longer.
 LATE = 124

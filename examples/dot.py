@@ -13,7 +13,7 @@ import sys
 
 sys.path.insert(0, str(pathlib.Path(__file__).resolve().parent.parent / "lib"))
 
-from aigprove.aiger import Circuit, Fault, Lines
+from aigprove.circuits.aiger import Circuit, Fault, Lines
 
 # How many gates a picture has at most, where nothing is said.
 MOST = 300

@@ -14,8 +14,8 @@ import sys
 
 sys.path.insert(0, str(pathlib.Path(__file__).resolve().parent.parent / "lib"))
 
-from aigprove import witness
-from aigprove.aiger import Circuit, Fault, Lines
+from aigprove.circuits import witness
+from aigprove.circuits.aiger import Circuit, Fault, Lines
 
 
 def property_number(word):

@@ -16,8 +16,9 @@ import sys
 
 sys.path.insert(0, str(pathlib.Path(__file__).resolve().parent.parent / "lib"))
 
-from aigprove import waves, witness
-from aigprove.aiger import Circuit, Fault, Lines
+from aigprove.circuits import witness
+from aigprove.output import waves
+from aigprove.circuits.aiger import Circuit, Fault, Lines
 
 
 def positive(word):

@@ -10,7 +10,7 @@ import itertools
 # Which finds the package of aigprove.
 import harness
 
-from aigprove.aiger import Circuit, Lines, differences
+from aigprove.circuits.aiger import Circuit, Lines, differences
 
 # The and of two inputs, in both forms.
 AND = b"aag 3 2 0 1 1\n2\n4\n6\n6 4 2\n"

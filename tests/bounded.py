@@ -20,7 +20,7 @@ from harness import CHECK, EDIT, numbers, output
 from machines import deep_machine, random_machine
 from trials import Files, run_files
 
-from aigprove.questions import ASSUMING, in_turn
+from aigprove.questions.solver import ASSUMING, in_turn
 
 LAST = 12
 # How many inputs a question may have of which all values are tried.

@@ -21,7 +21,7 @@ import time
 import harness
 from harness import CHECK, PROVE, RESYN, TESTS, TOP, rows
 
-from aigprove.aiger import Circuit, Header, Lines
+from aigprove.circuits.aiger import Circuit, Header, Lines
 
 DESIGNS = TESTS / "designs"
 # Designs that are compared with what these commands of ABC make of them.
@@ -45,7 +45,7 @@ PART = "module part(input clk, input d, output reg q); initial q = `INITIAL; alw
 ODD = ["[1]", "?", 'a "q;', "\n!touch made\n", " $(touch made)", "'#%{x}", "--"]
 # Maps of ours that make cells otherwise than yosys's own; cells whose maps yosys itself tests, by its solver and its evaluation of cells; and
 # a choice, made by both, between which its solver has to find no difference, of so many values of so many bits.
-MAPS = TOP / "lib" / "aigprove" / "gates.v"
+MAPS = TOP / "lib" / "aigprove" / "designs" / "gates.v"
 TESTED, TRIES = ["$shl", "$shr", "$sshl", "$sshr", "$shift", "$lcu", "$alu", "$fa", "$macc"], 8
 CHOICE = """module top #(parameter WIDTH = 1, COUNT = 1)
     (input [WIDTH-1:0] a, input [WIDTH*COUNT-1:0] b, input [COUNT-1:0] s, output [WIDTH-1:0] y);

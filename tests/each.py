@@ -26,9 +26,9 @@ from harness import PROVE, TESTS
 from machines import live_machine
 from twins import Design
 
-from aigprove import gather
-from aigprove.report import Answer
-from aigprove.witness import Witness
+from aigprove.output import gather
+from aigprove.output.report import Answer
+from aigprove.circuits.witness import Witness
 
 TABLE = TESTS / "each" / "table.txt"
 LINE = re.compile(r"(register|input|also|next|assume|assert|cover|hard|unmet): (.*)")

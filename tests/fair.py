@@ -28,7 +28,8 @@ ASSERTION = re.compile(r"(always @(\*|\(posedge clk\)) )?(if \(\w+\) )?\w+: (ass
 # What Python runs: aigprove, with a yosys that is late for the file of a design's liveness, whatever the time is.
 LATE = """import sys
 sys.path.insert(0, sys.argv.pop(1))
-from aigprove import command, yosys
+from aigprove import command
+from aigprove.designs import yosys
 def late(*_):
     raise yosys.Late("yosys is late")
 command.lives = late

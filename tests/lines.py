@@ -29,9 +29,10 @@ from harness import TESTS, TOP
 PROGRAMS = ["aigtool", "aigedit", "aigcheck"]
 # The name of aigprove's package in the places of rows.
 PACKAGE = "aigprove"
+MODULES = TOP / "lib" / PACKAGE
 # Calls that tell what they are given; modules whose words are cells of tables; and calls whose arguments are patterns and names.
 TELLING = {"print", "print_line", "say", "tell", "show_progress", "fault", "error", "Fault", "Missing", "Late", "ArgumentTypeError"}
-WORDED = {"report.py", "shown.py", "misfit.py"}
+WORDED = {"report.py", "signals.py", "mismatch.py"}
 PASSED = {"namedtuple", "compile", "fullmatch", "search", "sub", "decode", "encode", "startswith", "endswith", "removesuffix", "split"}
 STREAMS = {"out", "err", "both", "part", "file", "-"}
 CARRIERS = ["clause", "when", "never", "aigcheck", "tested", "text", "untested", "none"]
@@ -105,9 +106,9 @@ def sources():
         for path in sorted(folder.rglob("*.rt")):
             if "tests" not in (place := path.relative_to(folder)).with_suffix("").parts:
                 found[f"{crate}/{place}"].update(map(spelled, in_code(path.read_text())))
-    for path in [*sorted((TOP / "lib" / PACKAGE).glob("*.py")), TOP / "bin" / PACKAGE]:
+    for path in [*sorted(MODULES.rglob("*.py")), TOP / "bin" / PACKAGE]:
         texts = in_module(ast.parse(path.read_text()), path.name in WORDED)
-        found[f"{PACKAGE}/{path.name}"].update(dict.fromkeys(map(spelled, texts), 1))
+        found[f"{PACKAGE}/{path.relative_to(MODULES) if path.is_relative_to(MODULES) else path.name}"].update(dict.fromkeys(map(spelled, texts), 1))
     return {place: {text: count for text, count in texts.items() if text.replace("{}", "")} for place, texts in found.items()}
 
 

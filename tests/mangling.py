@@ -4,7 +4,7 @@ import functools
 # Which finds the package of aigprove.
 import harness
 
-from aigprove.aiger import differences
+from aigprove.circuits.aiger import differences
 
 
 def text_of(lines):

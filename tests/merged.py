@@ -12,9 +12,9 @@ import sys
 import types
 
 import harness
-from aigprove.implied import Pairs
-from aigprove.merging import Merging
-from aigprove.nodes import Nodes
+from aigprove.equality.implied import Pairs
+from aigprove.equality.merging import Merging
+from aigprove.equality.nodes import Nodes
 
 # How many inputs and gates a question has, and leaves and gates a circuit.
 INPUTS, GATES, LEAVES, NODES = 4, 8, 7, 12

@@ -20,7 +20,7 @@ import time
 from aiger import AND, BINARY_AND
 from harness import limit_files, run
 
-from aigprove.aiger import differences
+from aigprove.circuits.aiger import differences
 
 OLD = b"the old bytes"
 NOBODY, STRANGER, STRANGERS = 65534, 1234, 4321

@@ -44,8 +44,8 @@ from harness import CHECK, EDIT, FORMS, PROVE, TOOL, numbers, output
 from machines import LISTS, NAMES, named, random_machine
 from trials import Files, told
 
-from aigprove.aiger import Circuit, Lines
-from aigprove.plain import Plain
+from aigprove.circuits.aiger import Circuit, Lines
+from aigprove.circuits.normalised import Plain
 
 # Seconds for the answer about a design, and the designs.
 SECONDS = "20"

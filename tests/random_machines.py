@@ -27,8 +27,8 @@ from machines import deep_machine
 from mangling import mangled, text_of
 from trials import Files, told
 
-from aigprove.aiger import Lines
-from aigprove.witness import Witness, read
+from aigprove.circuits.aiger import Lines
+from aigprove.circuits.witness import Witness, read
 
 EXAMPLES = [str(TOP / "examples" / f"{name}.aag") for name in ["permits", "queue", "pipeline", "handshake"]]
 BOUND = 6

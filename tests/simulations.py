@@ -27,8 +27,8 @@ from claims import CONDITIONS, MANGLES, Copy, Search, Untold, by_invariant, by_s
 from harness import CHECK, PROVE, TESTS, TOOL, numbers, output, rows
 from trials import Files, counted, run_files, told
 
-from aigprove.aiger import Circuit, Lines
-from aigprove.plain import Plain
+from aigprove.circuits.aiger import Circuit, Lines
+from aigprove.circuits.normalised import Plain
 
 DESIGNS = TESTS / "designs"
 # How many states before are kept of designs for which that is enough, and beside an invariant.

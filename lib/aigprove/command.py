@@ -12,20 +12,21 @@ import sys
 import tempfile
 import time
 
-from aigprove import VERSION, programs
-from aigprove.aiger import Fault
-from aigprove.files import sealed
-from aigprove.fronts import ASSERT, COVER, FAIR, LIVE
-from aigprove.judge import Judge
-from aigprove.matched import STARTS
-from aigprove.pair import CONSTRAINTS, Pair
-from aigprove.justice import Justice, Justices, lives
-from aigprove.properties import Property
-from aigprove.questions import HINTED, cadical
-from aigprove.race import FAILED, OPEN, SAFE, UNSAFE, Race
-from aigprove.source import Given, Source
-from aigprove.spare import Spare
-from aigprove.yosys import Late
+from aigprove import VERSION
+from aigprove.circuits.aiger import Fault
+from aigprove.designs.front_ends import ASSERT, COVER, FAIR, LIVE
+from aigprove.designs.yosys import Late
+from aigprove.engines.portfolio import FAILED, OPEN, SAFE, UNSAFE, Race
+from aigprove.equality.matched import STARTS
+from aigprove.equality.pair import CONSTRAINTS, Pair
+from aigprove.processes import programs
+from aigprove.processes.files import sealed
+from aigprove.processes.fork_server import Spare
+from aigprove.questions.checker import Judge
+from aigprove.questions.justice import Justice, Justices, lives
+from aigprove.questions.properties import Property
+from aigprove.questions.solver import HINTED, cadical
+from aigprove.questions.source import Given, Source
 
 TOP = os.path.dirname(os.path.dirname(os.path.dirname(os.path.realpath(__file__))))
 # Engines, those first whose answers may come at once.
@@ -384,7 +385,7 @@ def raced(words, above, judge):
 def tabled(words, above, judge):
     """Asks about each property by itself, and gives the exit status of all together."""
     # What only tables need takes a while to be read.
-    from aigprove.table import Table
+    from aigprove.output.table import Table
 
     return Table(words, judge.programs, judge, above).run()
 

@@ -1,0 +1,1 @@
+"""Circuits in AIGER form: reading, simulating, normalising and writing them, and their witnesses and certificates."""

@@ -1,0 +1,100 @@
+"""Certificates in the form of the hardware model checking competition: a witness circuit, whose first inputs and latches are the file's, in
+order, with their resets and next values, and whose property is inductive and implies the file's. Nothing here is believed."""
+from aigprove.circuits.normalised import Gates, literals_of
+from aigprove.questions.conditions import STANDS
+
+
+class Frame:
+    """A state before the one that there is, in latches of the certificate's own: whether it is kept, its latches and its inputs."""
+
+    def __init__(self, circuit, first):
+        self.kept, self.state = first, range(first + 2, first + 2 + 2 * len(circuit.latches), 2)
+        self.inputs = range(self.state.stop, self.state.stop + 2 * len(circuit.inputs), 2)
+
+    def leaves(self, circuit):
+        """The literals that stand for the circuit's inputs and latches."""
+        return dict([*zip(circuit.inputs, self.inputs), *zip(circuit.latches, self.state)])
+
+    def literals(self):
+        return [self.kept, *self.state, *self.inputs]
+
+
+class WitnessCircuit:
+    """The gates over a circuit's leaves, and so many frames behind them."""
+
+    def __init__(self, circuit, frames=0):
+        self.circuit, inputs, latches = circuit, len(circuit.inputs), len(circuit.latches)
+        self.inputs = range(2, 2 * inputs + 2, 2)
+        self.state = range(self.inputs.stop, self.inputs.stop + 2 * latches, 2)
+        size = 2 * (1 + latches + inputs)
+        self.frames = [Frame(circuit, self.state.stop + i * size) for i in range(frames)]
+        self.gates = Gates(self.state.stop + frames * size)
+        self.literal = self.literals(dict([*zip(circuit.inputs, self.inputs), *zip(circuit.latches, self.state)]))
+        self.bads = list(map(self.literal, circuit.bads))
+
+    def literals(self, leaves):
+        return literals_of(self.circuit, self.gates, leaves)
+
+    def equal(self, left, right):
+        """The literal that is true where both are equal."""
+        return self.gates.choice(left, right, right ^ 1)
+
+    def implies(self, left, right):
+        return self.gates.both(left, right ^ 1) ^ 1
+
+    def starts(self, state):
+        """The literal that is true where the file's machine can start in a state."""
+        return self.gates.all(literal ^ (reset == 0) for literal, reset in zip(state, self.circuit.resets) if reset < 2)
+
+    def exclude(self, given):
+        """Has the states be bad that are bad in a machine with the same latches."""
+        leaves = dict([*zip(given.inputs, self.inputs), *zip(given.latches, self.state)])
+        literal = literals_of(given, self.gates, leaves)
+        self.bads += [*map(literal, given.bads), *(literal(it) ^ 1 for it in given.constraints)]
+
+    def remember(self):
+        """Has the states be bad whose frames aren't the last good states of a run."""
+        before, state = 1, self.state
+        for frame in self.frames:
+            literal = self.literals(frame.leaves(self.circuit))
+            moved = [self.equal(literal(next), now) for next, now in zip(self.circuit.nexts, state)]
+            good = [*moved, *map(literal, self.circuit.constraints), *(literal(bad) ^ 1 for bad in self.circuit.bads)]
+            begins = self.implies(self.gates.both(before, frame.kept ^ 1), self.starts(state))
+            right = [begins, self.implies(frame.kept, before), self.implies(frame.kept, self.gates.all(good))]
+            self.bads.append(self.gates.all(right) ^ 1)
+            before, state = frame.kept, frame.state
+
+    def rows(self):
+        """The lines of the latches: those of the file, and each frame, which gets what the one before has."""
+        for latch, next, reset in zip(self.state, self.circuit.nexts, self.circuit.resets):
+            yield f"{latch} {self.literal(next)} {reset if reset < 2 else latch}"
+        before = [1, *self.state, *self.inputs]
+        for frame in self.frames:
+            yield from (f"{latch} {next} 0" for latch, next in zip(frame.literals(), before))
+            before = frame.literals()
+
+    def text(self):
+        """Its text, with the file's names, but for those that would say that its leaves stand for others."""
+        rows, bad = list(self.rows()), self.gates.any(self.bads)
+        constraints = list(map(self.literal, self.circuit.constraints))
+        gates = [" ".join(map(str, row)) for row in self.gates.rows]
+        count = len(self.inputs) + len(rows) + len(gates)
+        header = f"aag {count} {len(self.inputs)} {len(rows)} 0 {len(gates)} 1 {len(constraints)}"
+        kept = (it for it in self.circuit.names.items() if it[0][0] in "il" and not it[1].startswith(STANDS))
+        names = (b"%s%d %s" % (letter.encode(), i, name) for (letter, i), name in kept)
+        lines = [str(line).encode() for line in [header, *self.inputs, *rows, bad, *constraints, *gates]]
+        return b"".join(line + b"\n" for line in [*lines, *names])
+
+
+def by_invariant(circuit, given):
+    """The certificate of an inductive machine whose latches are the circuit's."""
+    made = WitnessCircuit(circuit)
+    made.exclude(given)
+    return made.text()
+
+
+def by_window(circuit, k):
+    """The certificate of windows of k + 2 steps: it keeps the last k states."""
+    made = WitnessCircuit(circuit, k)
+    made.remember()
+    return made.text()

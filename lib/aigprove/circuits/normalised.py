@@ -1,0 +1,167 @@
+"""The machine of a file as every model checker reads it: all latches 0 at first, outputs that are 1 in bad states, no constraints.
+
+A latch that is 1 at first is inverted; one that is open at first takes an input's value at step 0, while the latch `began` is 0;
+and the latch `broken` is 1 once a constraint didn't hold. A machine without latches gets one that is spare. Inputs and latches
+are named by their places in the file (i0, l0), and the value of an open latch l0 is the input r0, so that what an engine says is
+told by names."""
+from aigprove.circuits.aiger import differences
+from aigprove.circuits.witness import Named
+
+BEGAN, BROKEN, SPARE = "began", "broken", "spare"
+# The values of these latches from step 1 on, in a run that meets the constraints.
+FIXED = {BEGAN: "1", BROKEN: "0", SPARE: "0"}
+
+
+class Gates:
+    """Gates over literals, in the order in which they were made, each once."""
+
+    def __init__(self, first):
+        self.next, self.rows, self.made = first, [], {}
+
+    def both(self, left, right):
+        """The literal of an and."""
+        if left < right:
+            left, right = right, left
+        if right == 0 or left == right ^ 1:
+            return 0
+        if right == 1 or left == right:
+            return left
+        made = self.made.get((left, right))
+        return self.add(left, right) if made is None else made
+
+    def add(self, left, right):
+        """The literal of a new and of two literals, the larger first."""
+        made = self.made[left, right] = self.next
+        self.rows.append((made, left, right))
+        self.next += 2
+        return made
+
+    def take(self, left, right, literal):
+        """Has another literal stand for an and from now on."""
+        self.made[max(left, right), min(left, right)] = literal
+
+    def any(self, literals):
+        """The literal of an or, as a tree."""
+        return self.all([literal ^ 1 for literal in literals]) ^ 1
+
+    def all(self, literals):
+        """The literal of an and of many, as a tree."""
+        literals = list(literals) or [1]
+        while len(literals) > 1:
+            pairs = [self.both(left, right) for left, right in zip(literals[::2], literals[1::2])]
+            literals = pairs + literals[2 * len(pairs):]
+        return literals[0]
+
+    def choice(self, condition, left, right):
+        return self.both(self.both(condition, left) ^ 1, self.both(condition ^ 1, right) ^ 1) ^ 1
+
+
+def binary(inputs, nexts, outputs, gates):
+    """The binary form of a machine of so many inputs, whose latches are 0 at first, by literals."""
+    header = f"aig {inputs + len(nexts) + len(gates.rows)} {inputs} {len(nexts)} {len(outputs)} {len(gates.rows)}"
+    lines = "".join(f"{line}\n" for line in [header, *nexts, *outputs])
+    return lines.encode() + differences(number for gate, left, right in gates.rows for number in (gate - left, left - right))
+
+
+def literals_of(circuit, gates, leaves):
+    """The literals that stand for those of a circuit, whose leaves stand for these: a function."""
+    known = {0: 0, **leaves}
+
+    def literal(of):
+        return known[of & ~1] ^ (of & 1)
+
+    for gate, left, right in circuit.gates:
+        known[gate] = gates.both(literal(left), literal(right))
+    return literal
+
+
+class Plain:
+    """The plain machine of a circuit, and what is told of it told of the circuit. It has one output for all bad state properties, or
+    one for each."""
+
+    def __init__(self, circuit, is_apart=False):
+        self.circuit = circuit
+        self.opened = [i for i, reset in enumerate(circuit.resets) if reset > 1]
+        count = len(circuit.inputs)
+        self.inputs = [f"i{i}" for i in range(count)] + [f"r{i}" for i in self.opened]
+        self.latches = [f"l{i}" for i in range(len(circuit.latches))]
+        self.latches += [BEGAN] * bool(self.opened) + [BROKEN] * bool(circuit.constraints)
+        self.latches = self.latches or [SPARE]
+        first = 2 * (len(self.inputs) + 1)
+        self.places = {name: first + 2 * i for i, name in enumerate(self.latches)}
+        self.gates = Gates(first + 2 * len(self.latches))
+        literal = literals_of(circuit, self.gates, self.leaves())
+        allowed = self.gates.all(map(literal, circuit.constraints))
+        broken = self.places.get(BROKEN, 0)
+        bads = list(map(literal, circuit.bads))
+        self.bads = [self.gates.all([bad, allowed, broken ^ 1]) for bad in (bads if is_apart else [self.gates.any(bads)])]
+        self.nexts = [literal(next) ^ (reset == 1) for next, reset in zip(circuit.nexts, circuit.resets)]
+        self.nexts += [1] * bool(self.opened) + [self.gates.both(broken ^ 1, allowed) ^ 1] * bool(circuit.constraints)
+        self.nexts = self.nexts or [0]
+
+    def leaves(self):
+        """The literals that stand for the circuit's inputs and latches."""
+        leaves = {literal: 2 * (i + 1) for i, literal in enumerate(self.circuit.inputs)}
+        free = {i: 2 * (len(self.circuit.inputs) + 1 + n) for n, i in enumerate(self.opened)}
+        for i, (literal, reset) in enumerate(zip(self.circuit.latches, self.circuit.resets)):
+            place = self.places[f"l{i}"]
+            leaves[literal] = self.gates.choice(self.places[BEGAN], place, free[i]) if i in free else place ^ (reset == 1)
+        return leaves
+
+    def binary(self):
+        """Its binary form."""
+        names = [f"{letter}{i} {name}\n" for letter, own in [("i", self.inputs), ("l", self.latches)] for i, name in enumerate(own)]
+        return binary(len(self.inputs), self.nexts, self.bads, self.gates) + "".join(names).encode()
+
+    def run(self, text):
+        """The first state and the inputs of each step in a counterexample of the plain machine, as `write_cex -n` of ABC writes
+        it."""
+        named = Named(text)
+        resets = enumerate(self.circuit.resets)
+        start = "".join(str(reset) if reset < 2 else named.values.get((0, f"r{i}"), "0") for i, reset in resets)
+        return start, named.rows(self.inputs[: len(self.circuit.inputs)])
+
+    def of_abc(self):
+        """The names of the latches as ABC has them of the circuit's own file: those that the file gives, or places."""
+        width = len(str(max(len(self.circuit.latches) - 1, 0)))
+        named = (self.circuit.names.get(("l", i)) for i in range(len(self.circuit.latches)))
+        return [name.decode("utf-8", "surrogateescape") if name else f"lo{i:0{width}}" for i, name in enumerate(named)]
+
+    def certificate(self, pla, names=None):
+        """The text of a certificate: inputs and latches as the circuit has them, and one bad state property, the states that an
+        invariant of the plain machine excludes, or one whose latches have these names. None where that isn't one of the machine.
+
+        Where a latch is open at first, the first states aren't among them."""
+        inputs, resets = len(self.circuit.inputs), self.circuit.resets
+        latches = range(2 * (inputs + 1), 2 * (inputs + len(resets) + 1), 2)
+        gates = Gates(latches.stop)
+        sides = [latch ^ (reset != 1) for latch, reset in zip(latches, resets)]
+        excluded = excluded_by(pla, dict(zip(names or self.latches, sides)))
+        if excluded is None:
+            return None
+        bad = gates.any(map(gates.all, excluded))
+        if self.opened:
+            bad = gates.both(bad, gates.all(latch ^ (reset == 0) for latch, reset in zip(latches, resets) if reset < 2) ^ 1)
+        header = f"aag {inputs + len(latches) + len(gates.rows)} {inputs} {len(latches)} 0 {len(gates.rows)} 1"
+        states = [f"{latch} {latch} {reset if reset < 2 else latch}" for latch, reset in zip(latches, resets)]
+        lines = [header, *range(2, latches.start, 2), *states, bad, *(" ".join(map(str, row)) for row in gates.rows)]
+        return "".join(f"{line}\n" for line in lines).encode()
+
+
+def excluded_by(pla, places):
+    """The cubes of an invariant in PLA form, as literals, by those of the latches, where the further latches have their fixed
+    values. None where it has no such form, or a name that is none of these."""
+    names, excluded = None, []
+    for words in filter(None, map(str.split, pla.splitlines())):
+        if words[0] == ".ilb":
+            # A name may have spaces.
+            names = list(places) if words[1:] == " ".join(places).split() else words[1:]
+        elif words[0][0] in "01-":
+            if names is None or len(words[0]) != len(names):
+                return None
+            cube = [(name, bit) for name, bit in zip(names, words[0]) if bit != "-"]
+            if all(FIXED.get(name, bit) == bit for name, bit in cube):
+                excluded.append([(name, bit) for name, bit in cube if name not in FIXED])
+    if names is None or any(name not in places for cube in excluded for name, _ in cube):
+        return None
+    return [[places[name] ^ (bit == "1") for name, bit in cube] for cube in excluded]

@@ -1,0 +1,321 @@
+"""Names that a design uses and doesn't declare.
+
+Yosys takes each of them for a net of one bit, whatever it stands for. So a design is first read in a way in which yosys refuses them. Where
+it has some, it is read again, which shows what they are: a path to a signal in an instance becomes a declared net of the same range and
+sign, which yosys joins with that signal when it flattens the design; an implicit net of Verilog becomes a declared one of one bit; and each
+other name is refused. Then the design is read once more, with these declarations, and again yosys refuses what isn't declared."""
+import collections
+import re
+
+from aigprove.designs.front_ends import DECLARED, DECLARED_LATER, REFUSED, WARNED
+from aigprove.designs.netlist import INTERFACE, check_names, modules_of, source_of
+from aigprove.designs.texts import Text
+from aigprove.processes.programs import Fault
+
+# A node of a syntax tree, as yosys prints it.
+NODE = re.compile(r"^( *)AST_(\w+) <(.*):(\d+)\.\d+-\d+\.\d+> \[0x[0-9a-f]+\](?: str='(\S*?)'(?= |$))?(?: bits='([01xz]*)')?", re.MULTILINE)
+GENERATED = {"GENBLOCK", "GENFOR", "GENIF", "GENCASE"}
+# What a module has, in yosys's own language: nets that the design names, with what stands before them, and cells, memories and parameters.
+NET = re.compile(r"((?:\n  attribute [^\n]*)*)\n  wire ((?:[a-z]+ (?:-?[0-9]+ )?)*)(\\\S+)(?=\n)")
+CELL = re.compile(r"\n  cell (\S+) (\\\S+)(?=\n)")
+OTHER = re.compile(r"\n  (memory|parameter) (?:[a-z]+ -?[0-9]+ )*(\\\S+)(?=[ \n])")
+SOURCE = re.compile(r'\n  attribute \\src "([^"]*:[0-9]+)\.[^"]*"')
+ATTRIBUTE = re.compile(r"\n  attribute \\(\S+)")
+JOINED, UNKNOWN = "hierconn", "aigprove_unknown"
+JOINED_NET = re.compile(rf"\n  attribute \\{JOINED} 1(?:\n  attribute [^\n]*)*\n  wire [^\n]*")
+# What is driven in a module, and the ports of its cells; and outputs of yosys's own cells.
+DRIVEN = re.compile(r"\n(?:  connect|  +(?:assign|update|memwr)) (\{[^}]*\}|\S+)")
+INSTANCE = re.compile(r"\n  cell (\S+) \\\S+\n(.*?)(?=\n  end)", re.DOTALL)
+PORT = re.compile(r"^    connect (\\\S+) (.*)$", re.MULTILINE)
+OUTPUTS = {f"\\{port}" for port in ["Y", "Q", "X", "CO", "LO", "O", "DATA", "RD_DATA"]}
+INDEX = re.compile(r"(.*)\[[0-9]+\]")
+# Attributes of a net that yosys may drop where it joins the net with another.
+HARMLESS = re.compile(r"src|wiretype|enum_\w+|hdlname|hierconn|aigprove_unknown")
+ABOVE = "a name is read if its path goes down from the module in which it stands, through instances and named blocks, to a net or variable"
+LATER = "its block is read later: use it behind the block"
+UNKNOWN_NAME = "declare it, or correct its spelling"
+
+
+class Shape(collections.namedtuple("Shape", "width offset is_upto is_signed")):
+    """The range and the sign of a signal."""
+
+    @classmethod
+    def of(cls, words):
+        """The shape of a net with these words in yosys's own language."""
+        it = words.split()
+        width, offset = (int(it[it.index(word) + 1]) if word in it else least for word, least in [("width", 1), ("offset", 0)])
+        return cls(width, offset, "upto" in it, "signed" in it)
+
+    def __str__(self):
+        """The shape as a declaration in Verilog has it."""
+        ends = [self.offset + self.width - 1, self.offset]
+        left, right = reversed(ends) if self.is_upto else ends
+        return f"{'signed ' * self.is_signed}[{left}:{right}] "
+
+
+Net = collections.namedtuple("Net", "name shape words place attributes")
+Node = collections.namedtuple("Node", "depth kind name bits place line children")
+Use = collections.namedtuple("Use", "place is_declaring is_local")
+
+
+class Module:
+    """What a module has in yosys's own language."""
+
+    def __init__(self, text):
+        self.text = text
+        nets = [Net(name, Shape.of(words), tuple(words.split()), *attributed(before)) for before, words, name in NET.findall(text)]
+        self.nets = {net.name: net for net in nets}
+        self.cells = {name: kind for kind, name in CELL.findall(text)}
+        self.others = {name: kind for kind, name in OTHER.findall(text)}
+
+    def is_used(self, name):
+        """Whether anything but its declaration names a net."""
+        return len(re.findall(rf" {re.escape(name)}(?=[ \n])", self.text)) > 1
+
+    def without(self, name):
+        """Drops a net that nothing uses, and gives the text then."""
+        self.text = re.sub(rf"(?:\n  attribute [^\n]*)*\n  wire (?:[^\n]* )?{re.escape(name)}(?=\n)", "", self.text, count=1)
+        return self.text
+
+    def is_output(self, port):
+        """Whether something in the module may drive a port."""
+        net = self.nets.get(port)
+        return net is None or "input" not in net.words
+
+    def driven(self, modules):
+        """The names of the nets that something in the module drives."""
+        found = {name for target in DRIVEN.findall(self.text) for name in target.split()}
+        for kind, ports in INSTANCE.findall(self.text):
+            own = modules.get(kind)
+            for port, signal in PORT.findall(ports):
+                if own.is_output(port) if own else port in OUTPUTS:
+                    found.update(signal.split())
+        return found
+
+
+def attributed(before):
+    """The place of a net with these lines of attributes, and their names."""
+    place = SOURCE.search(before)
+    return place[1] if place else "", tuple(ATTRIBUTE.findall(before))
+
+
+def warned(said):
+    """The places and the names of the nets that yosys declared by itself, as it says."""
+    return set(WARNED.findall(said))
+
+
+def nodes(said):
+    """Each node of the syntax trees that yosys prints, with those above it."""
+    above = []
+    for depth, kind, path, line, name, bits in NODE.findall(said):
+        while above and above[-1].depth >= len(depth):
+            above.pop()
+        node = Node(len(depth), kind, name, bits, f"{path}:{line}", int(line), [])
+        if above:
+            above[-1].children.append(node)
+        above.append(node)
+        yield node, above[:-1]
+
+
+def use_of(node, above):
+    """What a name's node says of it: a port of an instance or of a gate declares a net, and so does the left side of an assignment."""
+    kinds = [it.kind for it in above]
+    inner = kinds[len(kinds) - kinds[::-1].index("ASSIGN"):] if "ASSIGN" in kinds else None
+    is_left = inner is not None and set(inner) <= {"CONCAT"} and is_first([*above, node], len(above) - len(inner) - 1)
+    is_port = any(pair in zip(kinds, kinds[1:]) for pair in [("CELL", "ARGUMENT"), ("PRIMITIVE", "ARGUMENT")])
+    return Use(node.place, is_left or is_port and node.line > 0, bool(GENERATED & set(kinds)))
+
+
+def is_first(path, place):
+    """Whether a path of nodes goes through the first of those below the one at this place."""
+    return path[place].children[0] is path[place + 1]
+
+
+class Trees:
+    """What the syntax trees of all modules say, as they are before yosys changes them."""
+
+    def __init__(self, said):
+        # By the module and the name: its uses in order; names that are selected of; and arrays of instances whose last index isn't 0.
+        self.uses, self.selected, self.arrays = collections.defaultdict(list), set(), set()
+        for node, above in nodes(said):
+            module = next((it.name[1:] for it in above if it.kind == "MODULE"), None)
+            if node.kind == "IDENTIFIER":
+                self.uses[module, node.name].append(use_of(node, above))
+            if node.kind == "RANGE" and above[-1].kind == "IDENTIFIER":
+                self.selected.add((module, above[-1].name))
+            if node.kind == "CELL" and above[-1].kind == "CELLARRAY" and not ends_with_0(above[-1].children[0]):
+                self.arrays.add((module, node.name[1:]))
+
+    def check_net(self, module, name):
+        """Refuses a name that is no implicit net of Verilog: its first use in the module has to declare it, outside of what is generated."""
+        uses = self.uses[module, name]
+        if not any(use.is_declaring for use in uses):
+            raise Fault(UNKNOWN_NAME)
+        if (module, name) in self.selected:
+            raise Fault("an implicit net has one bit: declare it with its range")
+        if not uses[0].is_declaring:
+            raise Fault("it is used before the port that makes it an implicit net: declare it")
+        if uses[0].is_local:
+            raise Fault("yosys takes an implicit net of a block for one of the module: declare it in the block")
+
+
+def ends_with_0(bounds):
+    """Whether the range of an array ends with the constant 0."""
+    last = bounds.children[-1]
+    return len(bounds.children) == 2 and last.kind == "CONSTANT" and not last.bits.strip("0")
+
+
+class Hierarchy:
+    """All modules of a design in yosys's own language, in which names are looked up: those with these places aren't declared."""
+
+    def __init__(self, text, trees, places):
+        self.modules, self.trees, self.places = {name: Module(own) for name, own in modules_of(text).items()}, trees, places
+
+    def found(self, kind, path):
+        """What a path down from a module may be: pairs of a module and the name there of a net, or of what can't be read."""
+        module = self.modules.get(kind)
+        if module is None:
+            return
+        name = f"\\{path}"
+        if name in module.others or self.is_declared(module.nets.get(name)):
+            yield kind, name
+        for end in (found.start() for found in re.finditer(r"\.", path)):
+            if cell := module.cells.get(f"\\{path[:end]}"):
+                self.check_array(kind, path[:end])
+                yield from self.found(cell, path[end + 1:])
+
+    def is_declared(self, net):
+        """Whether the design declares a net, or Verilog does: a path that yosys took for a net isn't one."""
+        is_path = net is not None and "." in net.name and (net.place, net.name) in self.places
+        return net is not None and not is_path and not {JOINED, UNKNOWN} & set(net.attributes)
+
+    def implicit(self, kind):
+        """The nets of a module that yosys declared by itself."""
+        return [net for net in self.modules[kind].nets.values() if (net.place, net.name) in self.places]
+
+    def is_of_interface(self, kind, net):
+        """Whether a net of a module is of one of its interfaces: yosys declares it later, when it knows the interface."""
+        module, first = self.modules[kind], net.name.partition(".")[0]
+        return first in module.nets and "is_interface" in module.nets[first].attributes or self.is_interface(module.cells.get(first))
+
+    def is_interface(self, kind):
+        """Whether a module is an interface."""
+        return kind in self.modules and INTERFACE in self.modules[kind].text
+
+    def check_array(self, kind, cell):
+        """Refuses an instance of an array whose indices yosys doesn't keep."""
+        last = cell.rpartition(".")[2]
+        found = INDEX.fullmatch(last)
+        if found and (source_of(kind), found[1]) in self.trees.arrays:
+            raise Fault(f"{cell} is of an array of instances whose last index isn't 0, and yosys numbers them from 0: write it as [N:0]")
+
+    def signal(self, kind, path):
+        """The net that a path down from a module is: its shape."""
+        found = list(self.found(kind, path))
+        if len(found) != 1:
+            raise Fault(f"it may be {len(found)} signals" if found else f"it isn't found: {ABOVE}")
+        (owner, name), = found
+        module = self.modules[owner]
+        if name in module.others:
+            raise Fault(f"it is a {module.others[name]} of {source_of(owner)}, and nets and variables are read: let a net have its value")
+        net = module.nets[name]
+        if lost := [it for it in net.attributes if not HARMLESS.fullmatch(it)]:
+            raise Fault(f"yosys would drop its attribute {lost[0]}: let a net without one have its value")
+        return net.shape
+
+
+class Names:
+    """The declarations of the names that a design uses without any, by its modules and their names; what they stand for is refused where that
+    isn't clear."""
+
+    def __init__(self, yosys, texts, said):
+        self.yosys, self.texts = yosys, {path: Text(text) for path, text in texts.items()}
+        self.places, self.trees = warned(said), Trees(said)
+        self.declared, self.known = collections.defaultdict(dict), {}
+        self.forbidding = {name for text in self.texts.values() for name, *_, is_allowed in text.spans() if not is_allowed}
+        self.text = yosys.text("below.il")
+        below, every = (Hierarchy(text, self.trees, self.places) for text in [self.text, yosys.text("all.il")])
+        for kind, net in ((kind, net) for kind in below.modules for net in below.implicit(kind)):
+            self.declare(below, kind, net)
+        # What a module has that isn't used, or not so: a name there stands for nothing.
+        others = [(kind, net) for kind in every.modules for net in every.implicit(kind) if (source_of(kind), net.name) not in self.known]
+        of_interfaces = {(kind, net) for kind, net in others if every.is_of_interface(kind, net)}
+        for kind, net in others:
+            if (kind, net) not in of_interfaces:
+                self.declared[source_of(kind)][net.name] = f"(* {UNKNOWN} *) wire "
+        # Yosys first reads those of interfaces as names without a declaration.
+        self.way = DECLARED_LATER if of_interfaces else DECLARED
+
+    def fault(self, net, why):
+        """The fault that a name isn't declared, or can't be read if it is a path."""
+        what = "can't be read" if "." in net.name else "isn't declared"
+        return Fault(self.yosys.told(f"{net.place}: {net.name[1:]} {what}: {why}"))
+
+    def declare(self, hierarchy, kind, net):
+        """Declares what a net of a module of this kind stands for."""
+        base, name = source_of(kind), net.name[1:]
+        self.known[base, net.name] = net
+        if "." not in name:
+            self.check_net(base, net)
+            self.declared[base][net.name] = "wire "
+            return
+        # A path may begin with the name of the module in which it stands.
+        own = name.partition(".")[2] if name.startswith(f"{base}.") and not list(hierarchy.found(kind, name)) else name
+        try:
+            line = f"(* hierconn *) wire {hierarchy.signal(kind, own)}"
+        except Fault as why:
+            raise self.fault(net, why) from None
+        if self.declared[base].setdefault(f"\\{own}", line) != line:
+            raise self.fault(net, f"in instances of {base} it has different ranges or signs: let each have a module of its own")
+        self.known[base, f"\\{own}"] = net
+
+    def check_net(self, base, net):
+        """Refuses a name that is no implicit net of Verilog."""
+        if net.name.startswith("\\$"):
+            raise self.fault(net, "yosys has no such system function; a net without a driver has any value in each step")
+        try:
+            self.trees.check_net(base, net.name)
+        except Fault as why:
+            raise self.fault(net, why) from None
+        if base in self.forbidding:
+            raise self.fault(net, "`default_nettype none forbids implicit nets")
+
+    def unknown(self, said):
+        """The fault that a name isn't declared, where yosys says so of one that it hadn't taken for a net; else None."""
+        found = REFUSED.search(said)
+        why = LATER if found and f"{found[2]}\n" in self.text else ABOVE if found and "." in found[2] else UNKNOWN_NAME
+        return found and self.fault(Net(found[2], None, (), found[1], ()), why)
+
+    def declaring(self):
+        """The texts of the Verilog files with these declarations."""
+        lines = {module: "".join(f"{line}{name} ; " for name, line in own.items()) for module, own in self.declared.items()}
+        lines = {module: line.encode("utf-8", "surrogateescape") for module, line in lines.items()}
+        return {path: text.with_lines(lines) for path, text in self.texts.items()}
+
+    def checked(self, text, said):
+        """The design as yosys read it with these declarations, without those that a module doesn't use, once it is checked that each other
+        one is what it is joined with, and that nothing is written by it. Yosys said this of it."""
+        hierarchy = Hierarchy(text, self.trees, warned(said))
+        for kind, module in hierarchy.modules.items():
+            for net in hierarchy.implicit(kind):
+                if net.name not in self.declared[source_of(kind)] or "." in net.name:
+                    raise self.fault(net, "where a script of yosys reads it, or a module has interfaces, it has to be declared")
+            for net in [it for it in module.nets.values() if {JOINED, UNKNOWN} & set(it.attributes)]:
+                if module.is_used(net.name):
+                    self.check(hierarchy, kind, net)
+                else:
+                    text = text.replace(module.text, module.without(net.name))
+        check_names(modules_of(JOINED_NET.sub("", text)))
+        return text
+
+    def check(self, hierarchy, kind, net):
+        """Refuses a declared net that isn't what it is joined with, or that is written."""
+        first = self.known.get((source_of(kind), net.name), net)
+        try:
+            is_same = UNKNOWN not in net.attributes and hierarchy.signal(kind, net.name[1:]) == net.shape
+        except Fault as why:
+            raise self.fault(first, why) from None
+        if not is_same:
+            raise self.fault(first, "what it is depends on what it is taken for")
+        if net.name in hierarchy.modules[kind].driven(hierarchy.modules):
+            raise self.fault(first, "it is written, and names in other modules are only read")

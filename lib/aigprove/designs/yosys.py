@@ -1,0 +1,204 @@
+"""Yosys, which runs scripts in a folder. It is told names of our own alone, whatever bytes are in the paths that a user gives: to yosys a
+path may be a pattern or a command."""
+import contextlib
+import json
+import os
+import re
+import shutil
+import signal
+import subprocess
+import tempfile
+import threading
+import time
+
+from aigprove.designs.texts import EXPANDED
+from aigprove.processes.programs import Fault, ending, plain
+
+# A warning, which may go on in further lines, and the place before it.
+WARNING = re.compile(r"^(?:(.*): )?Warning: (.*(?:\n {4}.*)*)$", re.MULTILINE)
+# Warnings that aren't told, and why.
+HUSHED = {
+    "The network is combinational": "ABC says it of the gates that FREE and WRITE give it, of any design",
+    "Identifier `.*' is implicitly declared": "each such name is looked up, and refused if it is no implicit net of Verilog",
+}
+# How many commands a line of a script has at most: yosys copies the rest of a line behind each word.
+LONGEST = 1000
+
+
+class Late(Fault):
+    """The time was over before there was a file to ask about."""
+
+
+class Yosys:
+    """Runs scripts up to a deadline, with copies of a design's files, each beside links to what stands beside the file."""
+
+    def __init__(self, files, folder, programs, deadline):
+        if shutil.which("yosys") is None:
+            raise Fault("yosys is not installed, which makes a file of a design")
+        self.path, self.folder, self.programs, self.deadline = files[0].path, folder, programs, deadline
+        self.beside = list(dict.fromkeys(os.path.dirname(file.path) or "." for file in files))
+        for i, path in enumerate(self.beside):
+            self.link(path, self.place(f"{i}/source"))
+        # The path of each file, and where its copy is in the folder.
+        self.copies = {file.path: self.copied(i, file) for i, file in enumerate(files)}
+        # The folders' descriptors in the last run that read the design.
+        self.descriptors = []
+        # What names stand for in what yosys says, and of what it warned when it read the design, and later.
+        self.meanings, self.warnings = {}, []
+
+    def link(self, path, folder):
+        """Makes a folder of links to what a folder has."""
+        os.makedirs(folder)
+        entries = []
+        with contextlib.suppress(OSError):
+            entries = os.listdir(path)
+        for entry in entries:
+            os.symlink(os.path.join(os.path.abspath(path), entry), os.path.join(folder, entry))
+
+    def copied(self, i, file):
+        """The place of a copy of a file, by a name that nothing beside it has."""
+        folder = f"{self.beside.index(os.path.dirname(file.path) or '.')}/source"
+        name = f"design{i or ''}.v"
+        while os.path.lexists(self.place(f"{folder}/{name}")):
+            name = f"_{name}"
+        with open(self.place(f"{folder}/{name}"), "xb") as out:
+            out.write(file.data)
+        return f"{folder}/{name}"
+
+    def place(self, name):
+        return os.path.join(self.folder, name)
+
+    def put(self, name, text):
+        with open(self.place(name), "w", encoding="utf-8", errors="surrogateescape") as out:
+            out.write(text)
+
+    def put_script(self, name, text):
+        """Puts a script into the folder, as few lines: yosys looks through the whole design behind each."""
+        commands = list(filter(None, text.split("\n")))
+        self.put(name, "".join("; ".join(commands[i : i + LONGEST]) + "\n" for i in range(0, len(commands), LONGEST)))
+
+    def text(self, name):
+        with open(self.place(name), encoding="utf-8", errors="surrogateescape") as file:
+            return file.read()
+
+    def modules(self, name):
+        """What each module has, in a file in JSON that yosys wrote."""
+        return json.loads(self.text(name))["modules"]
+
+    def told(self, said):
+        """What yosys says, with the user's paths for its names."""
+        for name in sorted(self.meanings, key=len, reverse=True):
+            said = said.replace(name, plain(os.fsencode(self.meanings[name])).replace("\n", "\\x0a"))
+        return said
+
+    def fill(self, texts):
+        """Gives copies of files other texts, by the files' paths."""
+        for path, text in texts.items():
+            with open(self.place(self.copies[path]), "wb") as out:
+                out.write(text)
+
+    def warned(self, said):
+        """Keeps the warnings in what yosys said, each as a line."""
+        for place, text in WARNING.findall(said):
+            line = f"{self.told(place) if place else self.path}: yosys warns: {' '.join(self.told(text).split())}"
+            if line not in self.warnings and not any(re.match(hushed, text) for hushed in HUSHED):
+                self.warnings.append(line)
+
+    def read(self, script, folders, texts):
+        """Begins a run of a script in the folder where we are, from which relative paths in the design are, and gives it once it is ready.
+        The script is a function of where our folder is, the file that it writes to once it is ready, the paths of the files' copies, and
+        those of the folders beside them and of these. The copies' texts are a function of the folders' descriptors."""
+        ready, told = os.pipe()
+        with open(ready, "rb", buffering=0) as waiting:
+            with open(told, "wb"):
+                run = self.begin_reading(script, folders, texts, told)
+            # Where the run ends before it is ready, nothing is there to be read.
+            if not waiting.read(1):
+                run.printed()
+        return run
+
+    def begin_reading(self, script, folders, texts, told):
+        """Begins that run, which has this descriptor to tell by that it is ready."""
+        with contextlib.ExitStack() as opened:
+            descriptors = [os.open(path, os.O_PATH | os.O_DIRECTORY) for path in [self.folder, *self.beside, *folders]]
+            for descriptor in descriptors:
+                opened.callback(os.close, descriptor)
+            is_ready, made, *paths = (f"/proc/self/fd/{descriptor}" for descriptor in [told, *descriptors])
+            copies = {path: f"{made}/{copy}" for path, copy in self.copies.items()}
+            sources = {f"{made}/{i}/source": path for i, path in enumerate(self.beside)}
+            self.meanings = {**dict(zip(paths, [*self.beside, *folders])), **sources, **{copy: path for path, copy in copies.items()}}
+            self.descriptors, self.warnings = descriptors, []
+            self.fill(texts(descriptors))
+            self.put_script("read.ys", script(made, is_ready, copies, paths))
+            return Run(self, ["yosys", f"{made}/read.ys"], pass_fds=[told, *descriptors])
+
+    def begin(self, script, **words):
+        """Begins a run of a script in its own folder."""
+        self.put_script("script.ys", script.format(**words))
+        return Run(self, ["env", "-C", self.folder, "TMPDIR=.", "yosys", "script.ys"])
+
+    @contextlib.contextmanager
+    def alongside(self, script, **words):
+        """Runs a script in its own folder beside what is done meanwhile; where that fails, the run is ended."""
+        run = self.begin(script, **words)
+        try:
+            yield
+        except BaseException:
+            run.end()
+            raise
+        run.printed()
+
+    def run(self, script, **words):
+        """Runs a script in its own folder, and gives what it prints."""
+        return self.begin(script, **words).printed()
+
+
+class Run:
+    """A run of yosys, which is ended where the time is over."""
+
+    def __init__(self, yosys, words, **streams):
+        self.yosys, self.out, self.outcome = yosys, tempfile.TemporaryFile(), None
+        self.late, left = Late(f"{yosys.path}: yosys was still at it when the time was over"), yosys.deadline - time.monotonic()
+        if left <= 0:
+            raise self.late
+        self.group = yosys.programs.start(words, stdout=self.out, stderr=subprocess.STDOUT, **streams)
+        self.timer = threading.Timer(min(left, threading.TIMEOUT_MAX), self.group.signal, [signal.SIGKILL])
+        self.timer.daemon = True
+        self.timer.start()
+
+    def end(self):
+        """Ends it, whatever it is at."""
+        self.group.signal(signal.SIGKILL)
+        self.wait()
+
+    def wait(self):
+        """Its status, once it ends, what it printed, and whether the time is over then."""
+        if self.outcome is None:
+            status = self.yosys.programs.finish(self.group)
+            self.timer.cancel()
+            with self.out:
+                self.out.seek(0)
+                self.outcome = status, self.out.read(), time.monotonic() >= self.yosys.deadline
+        return self.outcome
+
+    def data(self):
+        """The bytes that it has printed so far."""
+        if self.outcome is not None:
+            return self.outcome[1]
+        return os.pread(self.out.fileno(), os.fstat(self.out.fileno()).st_size, 0)
+
+    def said(self):
+        """What it has said so far, without the texts that it read."""
+        return plain(EXPANDED.sub(b"", self.data()))
+
+    def printed(self):
+        """What it prints, once it ends, which has to be with status 0."""
+        status, _, is_over = self.wait()
+        said = self.said()
+        if status != 0 and is_over:
+            raise self.late
+        if status != 0:
+            why = [line for line in said.splitlines() if "ERROR: " in line]
+            raise Fault(self.yosys.told(why[0]) if why else f"yosys {ending(status)}")
+        self.yosys.warned(said)
+        return said

@@ -1,0 +1,1 @@
+"""Comparing two files: their miter, how their signals are matched, and finding nodes that are always equal."""

@@ -1,0 +1,290 @@
+"""Registers that correspond: a program that guesses, by names and by random runs, which latches, and other nodes, of a circuit of two files
+are always equal, or each other's inverse, and prints a certificate that says so. Nothing here is believed."""
+import copy
+import gc
+import itertools
+import json
+import os
+import random
+import sys
+
+from aigprove.circuits.aiger import Circuit, Fault, Lines
+from aigprove.circuits.normalised import Gates
+from aigprove.equality.classes import Classes, Different
+from aigprove.equality.implied import Pairs
+from aigprove.equality.incremental import Turns
+from aigprove.equality.merged_nodes import United, ordered
+from aigprove.equality.nodes import Nodes
+from aigprove.processes.programs import Programs
+from aigprove.questions.solver import Undecided
+
+# How aigedit begins the names of latches of the other file.
+OTHER = b"other."
+# How many seconds of cadical's are few: so many, and one for so many gates; and how many conflicts, where there are no more gates than these:
+# of more it takes long to look for nodes inside that are equal.
+LEAST, QUICK, FEW, MANY = 1, 1000, 300, 20000
+# For how many steps nodes are looked at ahead of those that there are, at first and then.
+AHEAD = [2, 6]
+
+
+def partners(circuit, count, others, alike):
+    """Of two files with so many latches: the latch of the second, by its place, that is to be a latch of the first: one that starts like
+    it, or has the same name, or else is at the same place."""
+    names = {circuit.names.get(("l", i)): i for i in range(len(circuit.latches))}
+    named = {i: names.get(OTHER + circuit.names[("l", i)]) for i in range(count) if ("l", i) in circuit.names}
+    starting = {partner: place for place, partner in alike.items()}
+    return {i: starting.get(i) or named.get(i) or (i + count if others == count else None) for i in range(count)}
+
+
+def paired(classes, other):
+    """Classes of which pairs of partners, by their literals, are apart from all else."""
+    made = copy.copy(classes)
+    made.rows = []
+    for own in classes.rows:
+        sides = {it & ~1: it for it in own}
+        pairs = [[it, sides[other[it & ~1]]] for it in own if other.get(it & ~1) in sides]
+        taken = {it for pair in pairs for it in pair}
+        left = [it for it in own if it not in taken]
+        made.rows += pairs + [left] * (len(left) > 1)
+    return made
+
+
+class States:
+    """Classes of latches that a step keeps, and of nodes that are equal wherever these are."""
+
+    def __init__(self, classes, solver):
+        self.classes, self.nodes, self.solver, self.is_hard = classes, classes.nodes, solver, False
+
+    def pairs(self):
+        """All pairs of latches, and if it is hard those of nodes, by which a step was seen to keep them and nothing bad to be there."""
+        found = None
+        while found is None:
+            self.classes.settle()
+            try:
+                found = self.kept()
+            except Undecided:
+                if self.is_hard:
+                    raise
+                self.is_hard = True
+        return found
+
+    def kept(self):
+        """These pairs; None where classes were split."""
+        classes, size, states, proved = self.classes, self.classes.size(), self.classes.pairs(), 0
+        nodes, known = self.nodes.merged(classes.merged(self.nodes.leaves(), 1))
+        inner, limits = self.inner(nodes), [] if self.is_hard else limits_for(len(nodes.gates.rows))
+        nexts = [(nodes.next(left), nodes.next(right)) for left, right in states] + [(bad, 0) for bad in nodes.bads]
+        while classes.size() == size:
+            pairs, facts = inner.pairs(), [(literal, 1) for literal in nodes.constraints]
+            found = self.solver.differing(nodes.gates, facts + pairs[:proved], pairs[proved:] + nexts, limits)
+            if found is None:
+                return states + of_nodes(pairs, known)
+            proved += min(found[0], len(pairs) - proved)
+            self.divide(inner, found[1])
+        return None
+
+    def inner(self, nodes):
+        """Classes of nodes that are equal where members of classes are, as random values have it, if it is hard; else there are none."""
+        made = Classes(nodes, self.classes.rng, self.classes.every)
+        if self.is_hard:
+            made.gather(nodes.all(), made.drawn(nodes.leaves()))
+            made.excite()
+        return made
+
+    def divide(self, inner, true):
+        """Splits what a solution, and others beside it, show to be different."""
+        classes, nodes = self.classes, inner.nodes
+        size, latches = classes.size() + inner.size(), classes.size()
+        known = nodes.values(inner.beside([literal >> 1 in true for literal in nodes.leaves()]), inner.every)
+        runs, state = inner.check(known, inner.every), nodes.following(known)
+        inner.split(known, runs)
+        classes.step(state, runs)
+        if classes.size() < latches:
+            classes.follow([*classes.drawn(nodes.inputs), *state], runs)
+        if classes.size() + inner.size() == size:
+            raise Fault("the solver's solution is none")
+
+
+def limits_for(gates):
+    """The words of cadical's limits where it is to end soon, of so many gates."""
+    return ["-t", str(LEAST + gates // QUICK), *(["-c", str(FEW)] if gates <= MANY else [])]
+
+
+def of_nodes(pairs, known):
+    """Pairs of literals as those of the first nodes that have them."""
+    own = {value: literal for literal, value in reversed(list(enumerate(known)))}
+    return [(own[left], own[right]) for left, right in pairs]
+
+
+class Steps:
+    """Classes of nodes that first states have and a step keeps."""
+
+    def __init__(self, classes, solver):
+        self.classes, self.nodes, self.solver = classes, classes.nodes, solver
+
+    def pairs(self):
+        """Pairs of them, by which first states were seen to have them, and a step to keep them."""
+        size = None
+        self.settle()
+        while size != self.classes.size():
+            size = self.classes.size()
+            self.keep_first()
+            self.keep_next()
+        return self.classes.pairs()
+
+    def keep_first(self):
+        """Splits classes until first states have them."""
+        nodes, classes, found = self.nodes, self.classes, True
+        while found:
+            gates = Gates(nodes.latches.stop)
+            state = nodes.first(nodes.latches, 1)
+            _, apart = United(classes, self.order).literals([*nodes.inputs, *state], gates, {})
+            facts = [(literal, 1) for literal in self.constraints([*nodes.inputs, *state], gates)]
+            found = self.solver.differing(gates, facts, [pair for _, pair in apart])
+            if found:
+                values = classes.beside([literal >> 1 in found[1] for literal in nodes.leaves()])
+                state = nodes.first(values[len(nodes.inputs):], classes.every)
+                self.follow([*values[:len(nodes.inputs)], *state], classes.every)
+
+    def constraints(self, leaves, gates):
+        """The literals of the constraints, by those of inputs and latches, whether classes hold or not."""
+        return self.nodes.allowing(self.nodes.literals(leaves, gates)) if self.nodes.constraints else []
+
+    def keep_next(self):
+        """Splits classes until a step was seen to keep each of them, some perhaps in states in which others were equal that were split
+        then."""
+        nodes, classes, proved = self.nodes, self.classes, set()
+        inputs = range(nodes.latches.stop, nodes.latches.stop + 2 * len(nodes.inputs), 2)
+        while True:
+            united, gates, merged = United(classes, self.order), Gates(inputs.stop), {}
+            now, equal = united.literals(nodes.leaves(), gates, merged)
+            leaves = [*inputs, *nodes.following(now)]
+            _, apart = united.literals(leaves, gates, merged)
+            asked = [it for it in apart if it[0] not in proved]
+            facts = [(literal, 1) for literal in [*nodes.allowing(now), *self.constraints(leaves, gates)]]
+            found = self.solver.differing(gates, facts + [pair for _, pair in equal], [pair for _, pair in asked])
+            if found is None:
+                return
+            proved.update(names for names, _ in asked[: found[0]])
+            self.divide(united, found[1])
+
+    def divide(self, united, true):
+        """Splits what a solution, and others beside it, show to be different in the next step."""
+        count = len(self.nodes.leaves())
+        values = self.classes.beside([number in true for number in range(1, count + len(self.nodes.inputs) + 1)])
+        state, runs = self.after(united, values[:count])
+        self.follow([*values[count:], *state], runs)
+
+    def after(self, united, leaves):
+        """The latches in the step that follows one in which members of classes are equal, and the runs in which they are."""
+        known = self.nodes.values(united.leaves(leaves, self.classes.every), self.classes.every)
+        return self.nodes.following(known), self.nodes.allowed(known, self.classes.equal(known))
+
+    def settle(self):
+        """Splits classes by steps from random states in which members are equal, until that splits none."""
+        classes, size = self.classes, None
+        while size != (size := classes.size()):
+            self.order = ordered(classes)
+            state, runs = self.after(United(classes, self.order), classes.drawn(self.nodes.leaves()))
+            if runs:
+                classes.follow([*classes.drawn(self.nodes.inputs), *classes.spread(state, runs)], classes.every)
+
+    def follow(self, leaves, runs):
+        """Splits classes by runs from a step on, which has to split one."""
+        size = self.classes.size()
+        self.classes.follow(leaves, runs)
+        if self.classes.size() == size:
+            raise Fault("the solver's solution is none")
+
+
+def certificate(nodes, pairs):
+    """The text of a certificate whose bad states are those in which a pair differs; of what stands on others first, as they are asked about
+    the last first. It has the gates that pairs read."""
+    pairs, gates = Pairs(nodes, pairs).needed(), Gates(nodes.gates.next)
+    read = nodes.cone(itertools.chain.from_iterable(pairs))
+    gates.rows = [row for row in nodes.gates.rows if row[0] in read]
+    ways = [gates.both(*way) for left, right in pairs for way in [(left, right ^ 1), (left ^ 1, right)]]
+    bads = [bad for bad in reversed(ways) if bad] or [0]
+    states = [f"{latch} {latch} {reset if reset < 2 else latch}" for latch, reset in zip(nodes.latches, nodes.resets)]
+    header = f"aag {(gates.next >> 1) - 1} {len(nodes.inputs)} {len(states)} 0 {len(gates.rows)} {len(bads)}"
+    lines = [header, *nodes.inputs, *states, *bads, *(" ".join(map(str, row)) for row in gates.rows)]
+    return "".join(f"{line}\n" for line in lines).encode()
+
+
+class Guesses:
+    """What may be equal in a circuit of two files, of which it has so many latches each, and some start like others: classes of nodes, first
+    of latches alone, which are split until a step keeps them."""
+
+    def __init__(self, circuit, alike, solver, given):
+        self.circuit, self.alike, self.solver, self.given, self.counts = circuit, alike, solver, given, given["counts"]
+
+    def certificate(self):
+        """The certificate of the first guess that a step keeps; None where there is none."""
+        try:
+            for guess in self.guesses():
+                if (pairs := self.kept(guess)) is not None:
+                    return certificate(guess.nodes, pairs)
+        except Different:
+            pass
+        return None
+
+    def guesses(self):
+        """What may be equal: registers and their partners, others, and other nodes, also in steps ahead."""
+        nodes, rng = Nodes(self.circuit, self.alike), random.Random(0)
+        latches = Classes(nodes, rng).begin([0, *nodes.latches])
+        given = partners(self.circuit, *self.counts, self.alike)
+        other = {nodes.latches[i]: nodes.latches[it] for i, it in given.items() if it is not None}
+        # As many registers are seldom those of another time.
+        ways = [[States(latches, self.solver)], self.present(rng), self.ahead(rng)]
+        ways = ways if self.counts[0] == self.counts[1] else reversed(ways)
+        yield from itertools.chain([States(paired(latches, other), self.solver)], *ways)
+
+    def present(self, rng):
+        """Nodes of one step."""
+        nodes = Nodes(self.circuit, self.alike)
+        yield Steps(Classes(nodes, rng).begin(nodes.all()), self.solver)
+
+    def ahead(self, rng):
+        """Also nodes of the next steps, first without those that are equal to such alone."""
+        whole = []
+        for steps in AHEAD:
+            stop, nodes = self.nodes_ahead(steps)
+            whole.append(Classes(nodes, rng).begin(nodes.all()))
+            yield Steps(whole[-1].of_first(stop), self.solver)
+        for classes in whole:
+            yield Steps(classes, self.solver)
+
+    def nodes_ahead(self, steps):
+        """Nodes, and also those of so many next steps, behind the place before which the others are."""
+        nodes = Nodes(self.circuit, self.alike)
+        stop = nodes.all().stop
+        nodes.look_ahead(steps)
+        return stop, nodes
+
+    def kept(self, guess):
+        try:
+            return guess.pairs()
+        except Different:
+            return None
+
+
+def run(make, folder, asked):
+    """Prints the certificate for the file `file.aag` of a folder, if there is one, of what is made of its circuit and of what is asked: which
+    latches start like others, how many are of each file, and which solver asks."""
+    # It soon ends, and what it makes isn't looked through for what could go.
+    gc.disable()
+    given = json.loads(asked)
+    with open(os.path.join(folder, "file.aag"), "rb") as file:
+        circuit = Circuit(Lines(file.read(), "FILE"), given["limit"])
+    alike = {int(place): partner for place, partner in given["alike"].items()}
+    solver = Turns(given["solver"], given["is_cadical"], Programs(1), None, folder)
+    try:
+        made = make(circuit, alike, solver, given).certificate()
+    except Fault as why:
+        sys.exit(str(why))
+    if made is not None:
+        sys.stdout.buffer.write(made)
+
+
+def main(*words):
+    run(Guesses, *words)

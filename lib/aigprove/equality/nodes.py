@@ -1,0 +1,135 @@
+"""The nodes of a circuit in order, and what they are in many runs at once, each of which is a bit of an integer. Nothing here is believed."""
+import copy
+
+from aigprove.circuits.normalised import Gates, literals_of
+
+
+class Nodes:
+    """A circuit whose literals are those of 0, its inputs, its latches and its gates, in this order, each gate once; by their places some
+    of its latches start like others."""
+
+    def __init__(self, circuit, alike={}):
+        self.alike = alike
+        self.inputs = range(2, 2 * len(circuit.inputs) + 2, 2)
+        self.latches = range(self.inputs.stop, self.inputs.stop + 2 * len(circuit.latches), 2)
+        self.gates, self.resets = Gates(self.latches.stop), circuit.resets
+        leaves = dict(zip([*circuit.inputs, *circuit.latches], [*self.inputs, *self.latches]))
+        literal = literals_of(circuit, self.gates, leaves)
+        lists = [circuit.nexts, circuit.bads, circuit.constraints]
+        self.nexts, self.bads, self.constraints = (list(map(literal, literals)) for literals in lists)
+
+    def all(self):
+        """The literals of all nodes."""
+        return range(0, self.gates.next, 2)
+
+    def leaves(self):
+        return [*self.inputs, *self.latches]
+
+    def first(self, values, every):
+        """The first values of the latches, by these of those that are open, in the runs of `every`; where this is 1 they may be literals."""
+        state = [every * reset if reset < 2 else value for reset, value in zip(self.resets, values)]
+        for place, partner in self.alike.items():
+            state[place] = state[partner]
+        return state
+
+    def values(self, leaves, every):
+        """The values of all literals, by those of inputs and latches, in the runs of `every`."""
+        known = sides(leaves, every)
+        for _, left, right in self.gates.rows:
+            value = known[left] & known[right]
+            known += value, value ^ every
+        return known
+
+    def literals(self, leaves, gates):
+        """The same of literals of other gates."""
+        known = sides(leaves, 1) + [0] * (self.gates.next - self.latches.stop)
+        for gate, left, right in self.gates.rows:
+            known[gate] = gates.both(known[left], known[right])
+            known[gate + 1] = known[gate] ^ 1
+        return known
+
+    def next(self, literal):
+        """The literal of what a latch, or 0, is in the next step."""
+        return literal if literal < 2 else self.nexts[(literal - self.latches.start) // 2] ^ literal & 1
+
+    def following(self, known):
+        """The next values of the latches."""
+        return [known[literal] for literal in self.nexts]
+
+    def allowing(self, known):
+        """The constraints."""
+        return [known[literal] for literal in self.constraints]
+
+    def allowed(self, known, runs):
+        """Those of some runs in which the constraints hold."""
+        for literal in self.constraints:
+            runs &= known[literal]
+        return runs
+
+    def merged(self, leaves):
+        """The same where inputs and latches are these literals of them, and the literals that all of its own have there."""
+        gates = Gates(self.latches.stop)
+        known = self.literals(leaves, gates)
+        return self.with_gates(gates, known), known
+
+    def with_gates(self, gates, known):
+        """The same over other gates, by what its literals are there."""
+        made, lists = copy.copy(self), [self.nexts, self.bads, self.constraints]
+        made.gates = gates
+        made.nexts, made.bads, made.constraints = ([known[literal] for literal in literals] for literals in lists)
+        return made
+
+    def cone(self, literals):
+        """The nodes that literals read, by their literals."""
+        seen = {literal & ~1 for literal in literals}
+        for gate, left, right in reversed(self.gates.rows):
+            if gate in seen:
+                seen |= {left & ~1, right & ~1}
+        return seen
+
+    def without(self, kept):
+        """The same with no gates but these, which have all that they read, and the literals that its own have there."""
+        first, gates = self.latches.stop, Gates(self.latches.stop)
+        known = [*range(first), *[0] * (self.gates.next - first)]
+        for gate, left, right in self.gates.rows:
+            if gate in kept:
+                known[gate] = gates.add(known[left], known[right])
+                known[gate + 1] = known[gate] ^ 1
+        return self.with_gates(gates, known), known
+
+    def reached(self, literals, rng):
+        """Inputs and latches, inverted where they are to be 0, that may make literals true."""
+        first, values, left, choices = self.latches.stop, {}, list(literals), []
+        while left or choices:
+            if not left:
+                # One of two that aren't to be true together.
+                below = choices.pop()
+                if all(values.get(it >> 1) != it ^ 1 for it in below):
+                    left.append(rng.choice([it for it in below if it >> 1 not in values] or below) ^ 1)
+            elif (it := left.pop()) >> 1 not in values:
+                values[it >> 1] = it
+                below = self.gates.rows[(it - first) >> 1][1:] if it >= first else []
+                if it & 1 and below:
+                    choices.append(below)
+                else:
+                    left += below
+        return [it for it in values.values() if 1 < it < first]
+
+    def look_ahead(self, steps):
+        """Adds what nodes are in so many next steps, where they read no inputs of these."""
+        nexts, seen = zip([0, *self.latches], [0, *self.nexts]), 0
+        later = {literal ^ side: next ^ side for literal, next in nexts for side in (0, 1)}
+        for _ in range(steps):
+            rows, seen = self.gates.rows[seen:], len(self.gates.rows)
+            for gate, left, right in rows:
+                if left in later and right in later:
+                    later[gate] = self.gates.both(later[left], later[right])
+                    later[gate + 1] = later[gate] ^ 1
+
+
+def sides(values, every):
+    """0 and 1, and values and their inverses, one after the other."""
+    known = [0, every]
+    for value in values:
+        known += value, value ^ every
+    return known

@@ -1,0 +1,105 @@
+"""Signals that correspond: a program that has ABC find which nodes of a circuit of two files are always equal, or each other's inverse, and
+prints a certificate that says so. Nothing here is believed."""
+import collections
+import random
+
+from aigprove.circuits.aiger import Header, Lines
+from aigprove.circuits.normalised import Gates, binary
+from aigprove.equality import guesses
+from aigprove.equality.classes import Classes
+from aigprove.equality.guesses import AHEAD, Guesses, Steps
+from aigprove.equality.merged_nodes import ordered
+from aigprove.processes.programs import Fault, Folder, ending
+
+# What ABC does with a machine each of whose nodes is an output: it unites nodes of which a step shows that they are always equal. With nodes of
+# next steps it moves registers forward before that, so that those of one time meet, and looks at two steps. Outputs are of one literal then,
+# or of it and its inverse.
+UNITE = "read_aiger nodes.aig; {}; write_aiger united.aig"
+PRESENT, MOVED = "scorr", "dretime -m; zero; scorr -F 2"
+# Classes of nodes of next steps alone are left out where at most this part of the gates is left then. Else they stay: a step may keep the
+# others with them alone.
+PART = 0.9
+
+
+def machine(nodes):
+    """A machine in binary form that has some nodes as its outputs, from the first latch on, and whose latches are 0 at first."""
+    if any(nodes.resets):
+        return begun(nodes)
+    outputs = range(nodes.latches.start, nodes.all().stop, 2)
+    return binary(len(nodes.inputs), nodes.nexts, outputs, nodes.gates)
+
+
+def begun(nodes):
+    """The same where latches are 1 at first, or open: the latch behind all others says whether the machine has begun, and else an input is an
+    open latch's value."""
+    count, latches = len(nodes.inputs), len(nodes.latches)
+    opened = [i for i, reset in enumerate(nodes.resets) if reset > 1 and i not in nodes.alike]
+    first = 2 * (1 + count + len(opened))
+    own, gates = range(first, first + 2 * latches, 2), Gates(first + 2 * latches + 2)
+    free = dict(zip(opened, range(nodes.inputs.stop, first, 2)))
+    start = nodes.first([free.get(i, 0) for i in range(latches)], 1)
+    state = [latch ^ value if value < 2 else gates.choice(own.stop, latch, value) for latch, value in zip(own, start)]
+    known = nodes.literals([*nodes.inputs, *state], gates)
+    nexts = [literal ^ (value == 1) for literal, value in zip(nodes.following(known), start)]
+    return binary(count + len(opened), [*nexts, 1], known[nodes.latches.start::2], gates)
+
+
+def outputs(data):
+    """The literals of the outputs of a file in binary form."""
+    lines = Lines(data, "ABC's file")
+    header = Header(lines)
+    lines.skip(header.latches)
+    return [literal for literal, in lines.rows(header.outputs, 1)]
+
+
+def rows(nodes, literals):
+    """Classes of nodes, by what stands for each from the first latch on; that of 0 is the first one."""
+    found = collections.defaultdict(list, {0: [0]})
+    for node, literal in zip(range(nodes.latches.start, nodes.all().stop, 2), literals):
+        found[literal & ~1].append(node ^ literal & 1)
+    return list(found.values())
+
+
+class Found(Steps):
+    """Classes that ABC found, which random steps don't split. That a step keeps them may be taken as it is."""
+
+    def __init__(self, classes, solver, is_taken):
+        super().__init__(classes, solver)
+        self.is_taken = is_taken
+
+    def pairs(self):
+        return self.classes.pairs() if self.is_taken else super().pairs()
+
+    def settle(self):
+        self.order = ordered(self.classes)
+
+
+class Signals(Guesses):
+    """What ABC finds to be equal in a circuit of two files."""
+
+    def guesses(self):
+        """Nodes, if the files have as many latches, and those of the next steps with them, where nothing bad is left."""
+        # ABC moves no registers where there are none.
+        ways = [*[0] * (self.counts[0] == self.counts[1]), max(AHEAD)] if self.circuit.latches else []
+        for steps in ways:
+            stop, nodes = self.nodes_ahead(steps)
+            own = rows(nodes, self.united(nodes, MOVED if steps else PRESENT))
+            if set(nodes.bads) <= set(own[0]):
+                classes = Classes(nodes, random.Random(0))
+                classes.rows = [row for row in own if len(row) > 1]
+                fewer = classes.of_first(stop)
+                is_less = len(fewer.nodes.gates.rows) < PART * len(nodes.gates.rows)
+                yield Found(fewer if is_less else classes, self.solver, self.given["is_taken"])
+
+    def united(self, nodes, commands):
+        """What stands for each node, from the first latch on, in the circuit that commands of ABC leave."""
+        with Folder(self.solver.above) as folder:
+            with folder.make("nodes.aig") as out:
+                out.write(machine(nodes))
+            if status := folder.run(self.solver.programs, [self.given["abc"], "-q", UNITE.format(commands)]):
+                raise Fault(f"ABC {ending(status)}")
+            return outputs(folder.taken("united.aig", "circuit").bytes())
+
+
+def main(*words):
+    guesses.run(Signals, *words)

@@ -1,0 +1,1 @@
+"""What is printed, written and kept: signals, tables, dumps and evidence."""

@@ -1,0 +1,116 @@
+"""Runs as value change dumps (VCD, IEEE 1364), which wave viewers such as gtkwave read."""
+import collections
+import itertools
+import re
+
+from aigprove.circuits.aiger import KINDS
+from aigprove.circuits.simulation import run
+
+SIMPLE_NAME = re.compile(rb"[A-Za-z_][A-Za-z0-9_$]*(\[[0-9]+\])?")
+BIT = re.compile(rb"(.+)\[(0|[1-9][0-9]{0,5})\]", re.DOTALL)
+PATH = re.compile(rb"((?:[A-Za-z_][A-Za-z0-9_$]*\.)+)(.+)", re.DOTALL)
+
+
+def words(names):
+    """The places of the bits of each word among names, the lowest bit first: `d[0]`, `d[1]` and so on, at least two, each once,
+    where nothing else is named `d`."""
+    found, times = collections.defaultdict(dict), collections.Counter(names)
+    for i, name in enumerate(names):
+        bit = BIT.fullmatch(name)
+        if bit and times[name] == 1:
+            found[bit[1]][int(bit[2])] = i
+    return {
+        name: [bits[n] for n in range(len(bits))]
+        for name, bits in found.items()
+        if len(bits) > 1 and set(bits) == set(range(len(bits))) and not times[name]
+    }
+
+
+def grouped(count, found):
+    """The name and the places of each of these words, where its lowest bit is, and no name and the place of what is in none."""
+    starts = {places[0]: (name, places) for name, places in found.items()}
+    inner = {i for places in found.values() for i in places[1:]}
+    return [starts.get(i, (None, [i])) for i in range(count) if i not in inner]
+
+
+def reference(name):
+    """A name as VCD has it: an identifier, or one that is escaped, of printable bytes."""
+    if SIMPLE_NAME.fullmatch(name):
+        return name.decode()
+    return "\\" + "".join(chr(byte) if 33 <= byte <= 126 and byte != ord("%") else f"%{byte:02X}" for byte in name)
+
+
+def code(number):
+    """The identifier code of a signal, of the printable characters from ! on."""
+    digits = chr(33 + number % 94)
+    while number >= 94:
+        number = number // 94 - 1
+        digits = chr(33 + number % 94) + digits
+    return digits
+
+
+class Variable:
+    """A signal or a word: its code, its name, and its literals, the lowest bit first."""
+
+    def __init__(self, number, name, literals):
+        self.code, self.literals = code(number), literals
+        path = PATH.fullmatch(name)
+        self.scopes, self.name = (path[1].decode().split(".")[:-1], path[2]) if path else ([], name)
+
+    def declared(self):
+        """Its declaration."""
+        width = len(self.literals)
+        bits = f" [{width - 1}:0]" if width > 1 else ""
+        return f"$var wire {width} {self.code} {reference(self.name)}{bits} $end"
+
+    def change(self, values):
+        """The line that says its value in a step."""
+        bits = "".join(values[literal] for literal in reversed(self.literals))
+        return bits + self.code if len(bits) == 1 else f"b{bits} {self.code}"
+
+
+def variables(circuit):
+    """The variables of each kind: its words, each in the place of its lowest bit, and its other signals."""
+    numbers = itertools.count()
+    for letter, group in itertools.groupby(circuit.signals(), key=lambda signal: signal[0]):
+        literals = [literal for _, _, literal in group]
+        names = [circuit.name(letter, i) for i in range(len(literals))]
+        places = grouped(len(names), words(names) if letter in "ilo" else {})
+        yield letter, [Variable(next(numbers), name or names[own[0]], [literals[i] for i in own]) for name, own in places]
+
+
+def declarations(made):
+    """The declarations of variables that stand in the order of their scopes, which are opened and closed between them."""
+    opened = []
+    for it in made:
+        shared = sum(1 for _ in itertools.takewhile(lambda pair: pair[0] == pair[1], zip(opened, it.scopes)))
+        yield from ["$upscope $end"] * (len(opened) - shared)
+        yield from (f"$scope module {name} $end" for name in it.scopes[shared:])
+        yield it.declared()
+        opened = it.scopes
+    yield from ["$upscope $end"] * len(opened)
+
+
+def dump(circuit, state, inputs, loop=None):
+    """The lines of the value change dump. Of a run that comes again and again from a step on, the signal `loop` is 1 from there on."""
+    made = list(variables(circuit))
+    mark = code(sum(len(own) for _, own in made))
+    yield "$comment a time unit is a step $end"
+    yield "$timescale 1 s $end"
+    for letter, own in made:
+        yield f"$scope module {KINDS[letter]} $end"
+        yield from declarations(sorted(own, key=lambda it: it.scopes))
+        yield "$upscope $end"
+    if loop is not None:
+        yield from ["$scope module run $end", f"$var wire 1 {mark} loop $end", "$upscope $end"]
+    yield "$enddefinitions $end"
+    last = {}
+    for t, values in enumerate(run(circuit, state, inputs)):
+        now = {it.code: it.change(values) for _, own in made for it in own}
+        if loop is not None:
+            now[mark] = f"{int(t >= loop)}{mark}"
+        yield f"#{t}"
+        changes = [line for name, line in now.items() if last.get(name) != line]
+        yield from ["$dumpvars", *changes, "$end"] if t == 0 else changes
+        last = now
+    yield f"#{len(inputs)}"

@@ -1,0 +1,1 @@
+"""The processes that are started: their turns, limits and files."""
