@@ -42,7 +42,7 @@ def lasso(words):
     latches, inputs = len(circuit.latches), len(circuit.inputs)
     lines = Lines(pathlib.Path(words.witness).read_bytes(), "WITNESS")
     told = witness.read(lines, 2 * latches + 1 + asked, inputs + 1)
-    return told._replace(letter="j", bad=words.number, start=told.start[:latches], steps=[row[:-1] for row in told.steps]).text()
+    return told.lasso(words.number, latches).text()
 
 
 def main():

@@ -27,7 +27,7 @@ from machines import live_machine
 from twins import Design
 
 from aigprove.output import gather
-from aigprove.output.report import Answer
+from aigprove.output.report import PropertyAnswer
 from aigprove.circuits.witness import Witness
 
 TABLE = TESTS / "each" / "table.txt"
@@ -287,9 +287,10 @@ def follow_faults(tally):
     """What follows of lines."""
     rows = [("b", *row) for row in FOLLOWS] + [("j", *row) for row in FOLLOWS_FAIR]
     for letter, lines, wanted in rows:
-        answer, told = Answer(letter, 0), Witness(0, "", [""] * 5)
-        made = [gather.Line("part", "", line.removeprefix("all: "), [], [], [("pdr", 1.0)]) for line in lines]
-        gather.conclude(answer, [(None, None if line.startswith("all: ") else 0, it, told) for line, it in zip(lines, made)])
+        answer, trace = PropertyAnswer(letter, 0), Witness(0, "", [""] * 5)
+        made = [gather.Line("part", "", line.removeprefix("all: "), engine="pdr", seconds=1.0) for line in lines]
+        found = [gather.Found(None, None if line.startswith("all: ") else 0, it, trace) for line, it in zip(lines, made)]
+        gather.conclude(answer, found)
         tally.wants(lines, wanted, answer.text())
 
 

@@ -31,7 +31,7 @@ sys.path.insert(0, sys.argv.pop(1))
 from aigprove import command
 from aigprove.designs import yosys
 def late(*_):
-    raise yosys.Late("yosys is late")
+    raise yosys.TranslationTimeout("yosys is late")
 command.lives = late
 command.main()
 """

@@ -15,7 +15,7 @@ import sys
 import harness
 from harness import PROVE, TESTS, TOP
 
-from aigprove import command
+from aigprove.options.parser import make_parser
 
 # How the tool makes the model of its engine, after `prep`.
 MODEL = """read_verilog -formal -sv design.v
@@ -99,7 +99,7 @@ def main():
     with harness.new_folder() as folder:
         flows(tally, folder)
         harness.output([str(TOP / "docs" / "man.py"), str(folder / "man")])
-        shown = [action for action in command.parser()._actions if action.help != argparse.SUPPRESS]
+        shown = [action for action in make_parser()._actions if action.help != argparse.SUPPRESS]
         options = [word for action in shown for word in action.option_strings]
         wanted = {"aigprove": options, "aigtool": ["query"], "aigedit": ["miter"], "aigcheck": ["certified", "bounded"]}
         for program, words in wanted.items():

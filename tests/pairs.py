@@ -45,7 +45,7 @@ from machines import LISTS, NAMES, named, random_machine
 from trials import Files, told
 
 from aigprove.circuits.aiger import Circuit, Lines
-from aigprove.circuits.normalised import Plain
+from aigprove.circuits.normalised import NormalisedModel
 
 # Seconds for the answer about a design, and the designs.
 SECONDS = "20"
@@ -462,7 +462,7 @@ class Invariant(Files):
         while True:
             self.machine = random_machine(rng)
             self.file = self.put("file.aag", self.machine.text())
-            self.plain = Plain(Circuit(Lines(output([TOOL, "text", self.file]).encode(), "FILE")))
+            self.plain = NormalisedModel(Circuit(Lines(output([TOOL, "text", self.file]).encode(), "FILE")))
             plain = self.put("plain.aig", self.plain.binary())
             invariant = self.folder / "invariant"
             invariant.unlink(missing_ok=True)

@@ -28,7 +28,7 @@ from harness import CHECK, PROVE, TESTS, TOOL, numbers, output, rows
 from trials import Files, counted, run_files, told
 
 from aigprove.circuits.aiger import Circuit, Lines
-from aigprove.circuits.normalised import Plain
+from aigprove.circuits.normalised import NormalisedModel
 
 DESIGNS = TESTS / "designs"
 # How many states before are kept of designs for which that is enough, and beside an invariant.
@@ -110,7 +110,7 @@ class Design(Claims):
 
     def invariant(self):
         """A machine that has as bad what an invariant of ABC's excludes."""
-        plain, pla = Plain(Circuit(Lines(Path(self.file).read_bytes(), "FILE"))), self.folder / "inv.pla"
+        plain, pla = NormalisedModel(Circuit(Lines(Path(self.file).read_bytes(), "FILE"))), self.folder / "inv.pla"
         file = self.put("plain.aig", plain.binary())
         harness.run(["berkeley-abc", "-q", f"read_aiger {file}; pdr -d -I {pla}"], timeout=SECONDS)
         if not pla.exists():

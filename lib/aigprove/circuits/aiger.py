@@ -1,19 +1,27 @@
 """Files in AIGER form, text and binary: what they say, as lists of literals."""
+from __future__ import annotations
+
+import copy
 import itertools
 import re
+from collections.abc import Iterable, Iterator, Sequence
+from typing import Any
 
 KINDS = {"i": "inputs", "l": "latches", "o": "outputs", "b": "bads", "c": "constraints"}
 LIMIT = 1 << 24
 COMMENT = re.compile(rb"c(?![0-9])")
 # The groups of a number in binary form behind which there is another.
 GOES_ON = bytes(range(128, 256))
+# A gate and its operands, by their literals; and names by letter and position.
+Gate = tuple[int, int, int]
+Names = dict[tuple[str, int], bytes]
 
 
 class Fault(Exception):
     """Why a file isn't taken, or there is no answer."""
 
 
-def decimal(digits):
+def decimal(digits: bytes) -> int:
     """The number that digits spell, however many zeros stand before it; ten digits are enough for any that a file has."""
     spelled = digits.lstrip(b"0")
     if len(spelled) > 10:
@@ -21,17 +29,27 @@ def decimal(digits):
     return int(spelled or b"0")
 
 
+def decoded(name: bytes) -> str:
+    """Returns a name of a file as a text, whatever bytes it has."""
+    return name.decode("utf-8", "surrogateescape")
+
+
+def encoded(name: str) -> bytes:
+    """Returns the bytes of such a text."""
+    return name.encode("utf-8", "surrogateescape")
+
+
 class Lines:
     """A stream of bytes that is read from the front, and what it is called in faults."""
 
-    def __init__(self, data, what):
+    def __init__(self, data: bytes, what: str) -> None:
         self.data, self.place, self.what = data, 0, what
 
-    def is_read(self):
+    def is_read(self) -> bool:
         """Whether nothing is left."""
         return self.place == len(self.data)
 
-    def line(self):
+    def line(self) -> bytes:
         """The next line, without its line feed."""
         end = self.data.find(b"\n", self.place)
         if end < 0:
@@ -40,34 +58,40 @@ class Lines:
         self.place = end + 1
         return line
 
-    def skip(self, count):
+    def skip(self, count: int) -> None:
         """Passes over so many lines."""
         *lines, rest = self.data[self.place:].split(b"\n", count)
         if len(lines) < count:
             raise Fault(f"{self.what} ends too early")
         self.place = len(self.data) - len(rest)
 
-    def numbers(self, least, most):
+    def numbers(self, least: int, most: int) -> list[int]:
         """A line of so many numbers."""
         words = self.line().split(b" ")
         if not least <= len(words) <= most or not all(word.isdigit() for word in words):
             raise Fault(f"{self.what} has a bad line of numbers")
         return [decimal(word) for word in words]
 
-    def number(self):
+    def number(self) -> int:
         """A line of one number."""
         return self.numbers(1, 1)[0]
 
-    def rows(self, count, width):
+    def rows(self, count: int, width: int) -> list[list[int]]:
         """So many lines of so many numbers each, which are read at once."""
         *lines, rest = self.data[self.place:].split(b"\n", count)
         words = b" ".join(lines).split(b" ") if lines else []
         if len(lines) < count or any(line.count(b" ") != width - 1 for line in lines) or not all(map(bytes.isdigit, words)):
             return [self.numbers(width, width) for _ in range(count)]
+        try:
+            numbers = iter(map(int, words))
+            found = [list(row) for row in zip(*[numbers] * width)]
+        except ValueError:
+            # A number has more digits than any that a file may have.
+            return [self.numbers(width, width) for _ in range(count)]
         self.place = len(self.data) - len(rest)
-        return list(map(list, zip(*[map(int, words)] * width)))
+        return found
 
-    def skip_differences(self, count):
+    def skip_differences(self, count: int) -> None:
         """Passes over so many of the numbers that `differences` reads."""
         while count:
             groups = self.data[self.place:self.place + count]
@@ -76,7 +100,7 @@ class Lines:
             self.place += len(groups)
             count -= len(groups.translate(None, GOES_ON))
 
-    def differences(self, count):
+    def differences(self, count: int) -> list[int]:
         """So many numbers in groups of seven bits, the lowest first."""
         found, number, shift = [], 0, 0
         for size, group in enumerate(self.data[self.place:] if count else b"", 1):
@@ -98,7 +122,7 @@ class Lines:
 class Header:
     """The first line: the form, and how many there are of each kind."""
 
-    def __init__(self, lines):
+    def __init__(self, lines: Lines) -> None:
         form, *words = lines.line().split(b" ")
         if form not in (b"aag", b"aig") or not 5 <= len(words) <= 9 or not all(word.isdigit() for word in words):
             raise Fault(f"bad header line in {lines.what}")
@@ -109,16 +133,16 @@ class Header:
         self.inputs, self.latches, self.outputs, self.gates = self.counts[1:5]
         self.bads, self.constraints, self.justice, self.fairness = self.counts[5:9]
 
-    def count(self, circuit, greatest):
+    def count(self, circuit: Circuit, greatest: int) -> None:
         """Counts again what a circuit has, up to this greatest variable."""
-        of = [circuit.inputs, circuit.latches, circuit.outputs, circuit.gates, circuit.bads, circuit.constraints, circuit.justice]
+        of: list[Sequence[object]] = [circuit.inputs, circuit.latches, circuit.outputs, circuit.gates, circuit.bads, circuit.constraints, circuit.justice]
         self.is_old, self.counts = False, [greatest, *map(len, of), len(circuit.fairness)]
 
 
 class Symbols:
     """The header of a file and its names, whose lists and gates are passed over."""
 
-    def __init__(self, lines):
+    def __init__(self, lines: Lines) -> None:
         header = self.header = Header(lines)
         lines.skip(header.inputs * header.is_text + header.latches + header.outputs + header.bads + header.constraints)
         lines.skip(sum(lines.number() for _ in range(header.justice)) + header.fairness)
@@ -132,7 +156,7 @@ class Symbols:
 class Circuit:
     """What a file says: its lists of literals, its gates in order, and its names."""
 
-    def __init__(self, lines, limit=LIMIT):
+    def __init__(self, lines: Lines, limit: int = LIMIT) -> None:
         self.what = lines.what
         header = self.header = Header(lines)
         if max(header.counts) >= limit:
@@ -140,7 +164,7 @@ class Circuit:
         first_latch = 2 * (header.inputs + 1)
         first_gate = first_latch + 2 * header.latches
         if header.is_text:
-            self.inputs = [row[0] for row in lines.rows(header.inputs, 1)]
+            self.inputs: Sequence[int] = [row[0] for row in lines.rows(header.inputs, 1)]
             rows = [lines.numbers(2, 3) for _ in range(header.latches)]
         else:
             self.inputs = range(2, first_latch, 2)
@@ -152,14 +176,15 @@ class Circuit:
         self.justice = [[lines.number() for _ in range(size)] for size in sizes]
         self.fairness = [lines.number() for _ in range(header.fairness)]
         if header.is_text:
-            self.gates = lines.rows(header.gates, 3)
+            self.gates: list[Gate] = [
+                (gate, left, right) for gate, left, right in lines.rows(header.gates, 3)]
         else:
             self.gates = binary_gates(lines, header.gates, first_gate)
         self.names = names(lines)
         self.check()
         self.put_in_order()
 
-    def check(self):
+    def check(self) -> None:
         """Refuses what is defined twice, or used and not defined."""
         defined = [*self.inputs, *self.latches, *(gate for gate, _, _ in self.gates)]
         known = {0, *defined}
@@ -169,14 +194,14 @@ class Circuit:
         if unknown := set(used) - known - {literal | 1 for literal in known}:
             raise Fault(f"literal {next(filter(unknown.__contains__, used))} is not defined in {self.what}")
 
-    def put_in_order(self):
+    def put_in_order(self) -> None:
         """Puts each gate behind those that it stands on, where that isn't so."""
         leaves = [0, *self.inputs, *self.latches]
         places = {literal: i for i, literal in enumerate(itertools.chain(leaves, (gate for gate, _, _ in self.gates)))}
         if all(places[left & ~1] < i > places[right & ~1] for i, (_, left, right) in enumerate(self.gates, len(leaves))):
             return
         gates = {gate: (gate, left, right) for gate, left, right in self.gates}
-        known, begun, self.gates = {0, *self.inputs, *self.latches}, set(), []
+        known, begun, self.gates = {0, *self.inputs, *self.latches}, set[int](), []
         path = list(reversed(gates))
         while path:
             literal = path[-1]
@@ -192,14 +217,25 @@ class Circuit:
                 raise Fault(f"gate {literal} stands on itself in {self.what}")
             path.append(below[0])
 
-    def signals(self):
+    def opened(self) -> list[int]:
+        """Returns the places of the latches that are uninitialised."""
+        return [i for i, reset in enumerate(self.resets) if reset > 1]
+
+    def with_lists(self, **lists: Any) -> Circuit:
+        """Returns the circuit with other lists, by their names."""
+        made = copy.copy(self)
+        for name, own in lists.items():
+            setattr(made, name, own)
+        return made
+
+    def signals(self) -> Iterator[tuple[str, int, int]]:
         """The letter, the position and the literal of each signal."""
         lists = [self.inputs, self.latches, self.outputs, self.bads, self.constraints]
         for letter, literals in zip(KINDS, lists):
             for position, literal in enumerate(literals):
                 yield letter, position, literal
 
-    def text(self):
+    def text(self) -> bytes:
         """Its text form, with its names, as bytes."""
         counts = self.header.counts[: 5 if self.header.is_old else 9]
         latches = zip(self.latches, self.nexts, self.resets)
@@ -209,11 +245,11 @@ class Circuit:
         names = (b"%s%d %s" % (letter.encode(), i, name) for (letter, i), name in self.names.items())
         return b"".join(line + b"\n" for line in itertools.chain(lines, names))
 
-    def name(self, letter, position):
+    def name(self, letter: str, position: int) -> bytes:
         """The name of a signal, as bytes."""
         return self.names.get((letter, position)) or f"{letter}{position}".encode()
 
-    def read_by(self, literal):
+    def read_by(self, literal: int) -> set[int]:
         """The places of the latches that a literal reads in the same step."""
         gates, left, seen = {gate: operands for gate, *operands in self.gates}, [literal & ~1], set()
         while left:
@@ -223,7 +259,7 @@ class Circuit:
         return {i for i, latch in enumerate(self.latches) if latch in seen}
 
 
-def differences(numbers):
+def differences(numbers: Iterable[int]) -> bytes:
     """Numbers as binary files spell them: groups of seven bits, the lowest first, each but the last with the eighth bit set."""
     groups = bytearray()
     for number in numbers:
@@ -234,7 +270,7 @@ def differences(numbers):
     return bytes(groups)
 
 
-def binary_gates(lines, count, first):
+def binary_gates(lines: Lines, count: int, first: int) -> list[Gate]:
     """So many gates of the binary form from this literal on, by their differences."""
     numbers = lines.differences(2 * count)
     gates = [(gate, gate - one, gate - one - two) for gate, one, two in zip(itertools.count(first, 2), numbers[::2], numbers[1::2])]
@@ -243,7 +279,7 @@ def binary_gates(lines, count, first):
     return gates
 
 
-def names(lines):
+def names(lines: Lines) -> Names:
     """The names behind the gates, by letter and position, up to the comment: a c without a digit behind it."""
     found = {}
     while not lines.is_read() and not COMMENT.match(lines.data, lines.place):

@@ -1,28 +1,33 @@
 """Certificates in the form of the hardware model checking competition: a witness circuit, whose first inputs and latches are the file's, in
 order, with their resets and next values, and whose property is inductive and implies the file's. Nothing here is believed."""
-from aigprove.circuits.normalised import Gates, literals_of
+from __future__ import annotations
+
+from collections.abc import Callable, Iterable, Iterator, Mapping
+
+from aigprove.circuits.aiger import Circuit
+from aigprove.circuits.gates import Gates, literals_of
 from aigprove.questions.conditions import STANDS
 
 
 class Frame:
     """A state before the one that there is, in latches of the certificate's own: whether it is kept, its latches and its inputs."""
 
-    def __init__(self, circuit, first):
+    def __init__(self, circuit: Circuit, first: int) -> None:
         self.kept, self.state = first, range(first + 2, first + 2 + 2 * len(circuit.latches), 2)
         self.inputs = range(self.state.stop, self.state.stop + 2 * len(circuit.inputs), 2)
 
-    def leaves(self, circuit):
+    def leaves(self, circuit: Circuit) -> dict[int, int]:
         """The literals that stand for the circuit's inputs and latches."""
         return dict([*zip(circuit.inputs, self.inputs), *zip(circuit.latches, self.state)])
 
-    def literals(self):
+    def literals(self) -> list[int]:
         return [self.kept, *self.state, *self.inputs]
 
 
 class WitnessCircuit:
     """The gates over a circuit's leaves, and so many frames behind them."""
 
-    def __init__(self, circuit, frames=0):
+    def __init__(self, circuit: Circuit, frames: int = 0) -> None:
         self.circuit, inputs, latches = circuit, len(circuit.inputs), len(circuit.latches)
         self.inputs = range(2, 2 * inputs + 2, 2)
         self.state = range(self.inputs.stop, self.inputs.stop + 2 * latches, 2)
@@ -32,27 +37,27 @@ class WitnessCircuit:
         self.literal = self.literals(dict([*zip(circuit.inputs, self.inputs), *zip(circuit.latches, self.state)]))
         self.bads = list(map(self.literal, circuit.bads))
 
-    def literals(self, leaves):
+    def literals(self, leaves: Mapping[int, int]) -> Callable[[int], int]:
         return literals_of(self.circuit, self.gates, leaves)
 
-    def equal(self, left, right):
+    def equal(self, left: int, right: int) -> int:
         """The literal that is true where both are equal."""
         return self.gates.choice(left, right, right ^ 1)
 
-    def implies(self, left, right):
+    def implies(self, left: int, right: int) -> int:
         return self.gates.both(left, right ^ 1) ^ 1
 
-    def starts(self, state):
+    def starts(self, state: Iterable[int]) -> int:
         """The literal that is true where the file's machine can start in a state."""
         return self.gates.all(literal ^ (reset == 0) for literal, reset in zip(state, self.circuit.resets) if reset < 2)
 
-    def exclude(self, given):
+    def exclude(self, given: Circuit) -> None:
         """Has the states be bad that are bad in a machine with the same latches."""
         leaves = dict([*zip(given.inputs, self.inputs), *zip(given.latches, self.state)])
         literal = literals_of(given, self.gates, leaves)
         self.bads += [*map(literal, given.bads), *(literal(it) ^ 1 for it in given.constraints)]
 
-    def remember(self):
+    def remember(self) -> None:
         """Has the states be bad whose frames aren't the last good states of a run."""
         before, state = 1, self.state
         for frame in self.frames:
@@ -64,7 +69,7 @@ class WitnessCircuit:
             self.bads.append(self.gates.all(right) ^ 1)
             before, state = frame.kept, frame.state
 
-    def rows(self):
+    def rows(self) -> Iterator[str]:
         """The lines of the latches: those of the file, and each frame, which gets what the one before has."""
         for latch, next, reset in zip(self.state, self.circuit.nexts, self.circuit.resets):
             yield f"{latch} {self.literal(next)} {reset if reset < 2 else latch}"
@@ -73,7 +78,7 @@ class WitnessCircuit:
             yield from (f"{latch} {next} 0" for latch, next in zip(frame.literals(), before))
             before = frame.literals()
 
-    def text(self):
+    def text(self) -> bytes:
         """Its text, with the file's names, but for those that would say that its leaves stand for others."""
         rows, bad = list(self.rows()), self.gates.any(self.bads)
         constraints = list(map(self.literal, self.circuit.constraints))
@@ -86,14 +91,14 @@ class WitnessCircuit:
         return b"".join(line + b"\n" for line in [*lines, *names])
 
 
-def by_invariant(circuit, given):
+def by_invariant(circuit: Circuit, given: Circuit) -> bytes:
     """The certificate of an inductive machine whose latches are the circuit's."""
     made = WitnessCircuit(circuit)
     made.exclude(given)
     return made.text()
 
 
-def by_window(circuit, k):
+def by_window(circuit: Circuit, k: int) -> bytes:
     """The certificate of windows of k + 2 steps: it keeps the last k states."""
     made = WitnessCircuit(circuit, k)
     made.remember()

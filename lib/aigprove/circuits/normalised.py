@@ -4,7 +4,12 @@ A latch that is 1 at first is inverted; one that is open at first takes an input
 and the latch `broken` is 1 once a constraint didn't hold. A machine without latches gets one that is spare. Inputs and latches
 are named by their places in the file (i0, l0), and the value of an open latch l0 is the input r0, so that what an engine says is
 told by names."""
-from aigprove.circuits.aiger import differences
+from __future__ import annotations
+
+from collections.abc import Mapping, Sequence
+
+from aigprove.circuits.aiger import Circuit, decoded
+from aigprove.circuits.gates import Gates, binary, literals_of
 from aigprove.circuits.witness import Named
 
 BEGAN, BROKEN, SPARE = "began", "broken", "spare"
@@ -12,76 +17,13 @@ BEGAN, BROKEN, SPARE = "began", "broken", "spare"
 FIXED = {BEGAN: "1", BROKEN: "0", SPARE: "0"}
 
 
-class Gates:
-    """Gates over literals, in the order in which they were made, each once."""
-
-    def __init__(self, first):
-        self.next, self.rows, self.made = first, [], {}
-
-    def both(self, left, right):
-        """The literal of an and."""
-        if left < right:
-            left, right = right, left
-        if right == 0 or left == right ^ 1:
-            return 0
-        if right == 1 or left == right:
-            return left
-        made = self.made.get((left, right))
-        return self.add(left, right) if made is None else made
-
-    def add(self, left, right):
-        """The literal of a new and of two literals, the larger first."""
-        made = self.made[left, right] = self.next
-        self.rows.append((made, left, right))
-        self.next += 2
-        return made
-
-    def take(self, left, right, literal):
-        """Has another literal stand for an and from now on."""
-        self.made[max(left, right), min(left, right)] = literal
-
-    def any(self, literals):
-        """The literal of an or, as a tree."""
-        return self.all([literal ^ 1 for literal in literals]) ^ 1
-
-    def all(self, literals):
-        """The literal of an and of many, as a tree."""
-        literals = list(literals) or [1]
-        while len(literals) > 1:
-            pairs = [self.both(left, right) for left, right in zip(literals[::2], literals[1::2])]
-            literals = pairs + literals[2 * len(pairs):]
-        return literals[0]
-
-    def choice(self, condition, left, right):
-        return self.both(self.both(condition, left) ^ 1, self.both(condition ^ 1, right) ^ 1) ^ 1
-
-
-def binary(inputs, nexts, outputs, gates):
-    """The binary form of a machine of so many inputs, whose latches are 0 at first, by literals."""
-    header = f"aig {inputs + len(nexts) + len(gates.rows)} {inputs} {len(nexts)} {len(outputs)} {len(gates.rows)}"
-    lines = "".join(f"{line}\n" for line in [header, *nexts, *outputs])
-    return lines.encode() + differences(number for gate, left, right in gates.rows for number in (gate - left, left - right))
-
-
-def literals_of(circuit, gates, leaves):
-    """The literals that stand for those of a circuit, whose leaves stand for these: a function."""
-    known = {0: 0, **leaves}
-
-    def literal(of):
-        return known[of & ~1] ^ (of & 1)
-
-    for gate, left, right in circuit.gates:
-        known[gate] = gates.both(literal(left), literal(right))
-    return literal
-
-
-class Plain:
+class NormalisedModel:
     """The plain machine of a circuit, and what is told of it told of the circuit. It has one output for all bad state properties, or
     one for each."""
 
-    def __init__(self, circuit, is_apart=False):
+    def __init__(self, circuit: Circuit, is_apart: bool = False) -> None:
         self.circuit = circuit
-        self.opened = [i for i, reset in enumerate(circuit.resets) if reset > 1]
+        self.opened = circuit.opened()
         count = len(circuit.inputs)
         self.inputs = [f"i{i}" for i in range(count)] + [f"r{i}" for i in self.opened]
         self.latches = [f"l{i}" for i in range(len(circuit.latches))]
@@ -99,7 +41,7 @@ class Plain:
         self.nexts += [1] * bool(self.opened) + [self.gates.both(broken ^ 1, allowed) ^ 1] * bool(circuit.constraints)
         self.nexts = self.nexts or [0]
 
-    def leaves(self):
+    def leaves(self) -> dict[int, int]:
         """The literals that stand for the circuit's inputs and latches."""
         leaves = {literal: 2 * (i + 1) for i, literal in enumerate(self.circuit.inputs)}
         free = {i: 2 * (len(self.circuit.inputs) + 1 + n) for n, i in enumerate(self.opened)}
@@ -108,12 +50,12 @@ class Plain:
             leaves[literal] = self.gates.choice(self.places[BEGAN], place, free[i]) if i in free else place ^ (reset == 1)
         return leaves
 
-    def binary(self):
+    def binary(self) -> bytes:
         """Its binary form."""
         names = [f"{letter}{i} {name}\n" for letter, own in [("i", self.inputs), ("l", self.latches)] for i, name in enumerate(own)]
         return binary(len(self.inputs), self.nexts, self.bads, self.gates) + "".join(names).encode()
 
-    def run(self, text):
+    def run(self, text: str) -> tuple[str, list[str]]:
         """The first state and the inputs of each step in a counterexample of the plain machine, as `write_cex -n` of ABC writes
         it."""
         named = Named(text)
@@ -121,13 +63,13 @@ class Plain:
         start = "".join(str(reset) if reset < 2 else named.values.get((0, f"r{i}"), "0") for i, reset in resets)
         return start, named.rows(self.inputs[: len(self.circuit.inputs)])
 
-    def of_abc(self):
+    def of_abc(self) -> list[str]:
         """The names of the latches as ABC has them of the circuit's own file: those that the file gives, or places."""
         width = len(str(max(len(self.circuit.latches) - 1, 0)))
         named = (self.circuit.names.get(("l", i)) for i in range(len(self.circuit.latches)))
-        return [name.decode("utf-8", "surrogateescape") if name else f"lo{i:0{width}}" for i, name in enumerate(named)]
+        return [decoded(name) if name else f"lo{i:0{width}}" for i, name in enumerate(named)]
 
-    def certificate(self, pla, names=None):
+    def certificate(self, pla: str, names: Sequence[str] | None = None) -> bytes | None:
         """The text of a certificate: inputs and latches as the circuit has them, and one bad state property, the states that an
         invariant of the plain machine excludes, or one whose latches have these names. None where that isn't one of the machine.
 
@@ -148,7 +90,7 @@ class Plain:
         return "".join(f"{line}\n" for line in lines).encode()
 
 
-def excluded_by(pla, places):
+def excluded_by(pla: str, places: Mapping[str, int]) -> list[list[int]] | None:
     """The cubes of an invariant in PLA form, as literals, by those of the latches, where the further latches have their fixed
     values. None where it has no such form, or a name that is none of these."""
     names, excluded = None, []

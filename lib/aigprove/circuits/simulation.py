@@ -1,5 +1,16 @@
 """Runs of a circuit, simulated in three values, and many trials of one at once. What is believed of a run aigcheck says."""
+from __future__ import annotations
 
+from collections.abc import Iterable, Iterator, Mapping, Sequence
+from typing import TYPE_CHECKING
+
+from aigprove.circuits.aiger import Circuit
+
+if TYPE_CHECKING:
+    from aigprove.circuits.witness import Witness
+
+# By the places of values the trials that are without them.
+LeftOut = Mapping[tuple[int, int], int]
 # How many gates in how many steps are simulated here, where no program of ours does that.
 SIMULATED = 1 << 21
 
@@ -7,25 +18,25 @@ SIMULATED = 1 << 21
 class Values:
     """What is known in a step of each literal: a trial is a bit of `every`, and a literal has those in which it is known to be true."""
 
-    def __init__(self, circuit, every=1):
+    def __init__(self, circuit: Circuit, every: int = 1) -> None:
         rows = [*circuit.latches, *circuit.inputs, *(gate for gate, _, _ in circuit.gates)]
         self.places = {0: 0, **{literal: 2 * i for i, literal in enumerate(rows, 1)}}
         self.known = [0, every, *[0] * (2 * len(rows))]
 
-    def place(self, literal):
+    def place(self, literal: int) -> int:
         return self.places[literal & ~1] ^ literal & 1
 
-    def true(self, literal):
+    def true(self, literal: int) -> int:
         """The trials in which a literal is known to be true."""
         return self.known[self.place(literal)]
 
-    def __getitem__(self, literal):
+    def __getitem__(self, literal: int) -> str:
         """The value of a literal, where there is one trial."""
         place = self.place(literal)
         return "1" if self.known[place] else "0" if self.known[place ^ 1] else "x"
 
 
-def sides(t, row, left_out, every):
+def sides(t: int, row: Sequence[str], left_out: LeftOut | None, every: int) -> Iterator[int]:
     """What is known of the values of a row and of their inverses, one after the other."""
     for i, value in enumerate(row):
         own = every & ~left_out.get((t, i), 0) if left_out else every
@@ -33,7 +44,7 @@ def sides(t, row, left_out, every):
         yield own if value == "0" else 0
 
 
-def run(circuit, start, steps, left_out={}, every=1):
+def run(circuit: Circuit, start: Sequence[str], steps: Iterable[Sequence[str]], left_out: LeftOut | None = None, every: int = 1) -> Iterator[Values]:
     """The values in each step, until the next is asked for. Some trials are without the value at a place: 0 and a latch, or t + 1 and an
     input of step t."""
     values = Values(circuit, every)
@@ -50,10 +61,10 @@ def run(circuit, start, steps, left_out={}, every=1):
         yield values
 
 
-def trials(circuit, told, bads, left_out, every):
+def trials(circuit: Circuit, trace: Witness, bads: Iterable[int], left_out: LeftOut, every: int) -> int:
     """The trials of a run that meet every constraint and end where these bad states are."""
     shown = every
-    for values in run(circuit, told.start, told.steps, left_out, every):
+    for values in run(circuit, trace.start, trace.steps, left_out, every):
         for literal in circuit.constraints:
             shown &= values.true(literal)
     for bad in bads:

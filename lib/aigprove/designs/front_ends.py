@@ -1,6 +1,8 @@
 """Which files are of designs, what reads them, and the cells of what is asked about them."""
-import collections
+from __future__ import annotations
+
 import re
+from typing import NamedTuple
 
 # By the end of a file's name: what reads it, with the words for what is Verilog. The latches of BLIF have one clock.
 VERILOG = "read_verilog {words} -formal -sv {include} {file}"
@@ -15,9 +17,13 @@ FRONTS = {
 STANDARD_INPUT = "-"
 
 
-class Way(collections.namedtuple("Way", "words inner end")):
+class Way(NamedTuple):
     """A way in which yosys reads Verilog: the words for it and those for it in scripts, and what the files end with. Of lines that say whether
     nets may be implicit the last counts for the whole file."""
+
+    words: str
+    inner: str
+    end: bytes
 
 
 NONE, WIRE = b"\n\n`default_nettype none\n", b"\n\n`default_nettype wire\n"
@@ -33,15 +39,19 @@ WARNED = re.compile(r"^(.*): Warning: Identifier `(\S+)' is implicitly declared\
 ASSERT, COVER, LIVE, FAIR = "$assert", "$cover", "$live", "$fair"
 
 
-class File(collections.namedtuple("File", "path data")):
+class File(NamedTuple):
     """A file of a design: its path and its bytes."""
 
+    path: str
+    data: bytes
+
     @property
-    def kind(self):
-        return kind_of(self.path, self.data)
+    def kind(self) -> str:
+        """The end of its name that says what reads it."""
+        return kind_of(self.path, self.data) or ""
 
 
-def kind_of(path, data):
+def kind_of(path: str, data: bytes) -> str | None:
     """The end of a file's name that says what reads it, or None of one in AIGER form. What standard input has is seen by how it begins."""
     if path == STANDARD_INPUT:
         return None if data.startswith((b"aag ", b"aig ")) else ".v"

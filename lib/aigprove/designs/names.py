@@ -4,13 +4,20 @@ Yosys takes each of them for a net of one bit, whatever it stands for. So a desi
 it has some, it is read again, which shows what they are: a path to a signal in an instance becomes a declared net of the same range and
 sign, which yosys joins with that signal when it flattens the design; an implicit net of Verilog becomes a declared one of one bit; and each
 other name is refused. Then the design is read once more, with these declarations, and again yosys refuses what isn't declared."""
+from __future__ import annotations
+
 import collections
 import re
+from collections.abc import Iterator, Mapping, Sequence
+from typing import TYPE_CHECKING, NamedTuple
 
+from aigprove.circuits.aiger import Fault, encoded
 from aigprove.designs.front_ends import DECLARED, DECLARED_LATER, REFUSED, WARNED
 from aigprove.designs.netlist import INTERFACE, check_names, modules_of, source_of
 from aigprove.designs.texts import Text
-from aigprove.processes.programs import Fault
+
+if TYPE_CHECKING:
+    from aigprove.designs.yosys import Yosys
 
 # A node of a syntax tree, as yosys prints it.
 NODE = re.compile(r"^( *)AST_(\w+) <(.*):(\d+)\.\d+-\d+\.\d+> \[0x[0-9a-f]+\](?: str='(\S*?)'(?= |$))?(?: bits='([01xz]*)')?", re.MULTILINE)
@@ -36,53 +43,83 @@ LATER = "its block is read later: use it behind the block"
 UNKNOWN_NAME = "declare it, or correct its spelling"
 
 
-class Shape(collections.namedtuple("Shape", "width offset is_upto is_signed")):
+class Shape(NamedTuple):
     """The range and the sign of a signal."""
 
+    width: int
+    offset: int
+    is_upto: bool
+    is_signed: bool
+
     @classmethod
-    def of(cls, words):
+    def of(cls, words: str) -> Shape:
         """The shape of a net with these words in yosys's own language."""
         it = words.split()
         width, offset = (int(it[it.index(word) + 1]) if word in it else least for word, least in [("width", 1), ("offset", 0)])
         return cls(width, offset, "upto" in it, "signed" in it)
 
-    def __str__(self):
+    def __str__(self) -> str:
         """The shape as a declaration in Verilog has it."""
         ends = [self.offset + self.width - 1, self.offset]
         left, right = reversed(ends) if self.is_upto else ends
         return f"{'signed ' * self.is_signed}[{left}:{right}] "
 
 
-Net = collections.namedtuple("Net", "name shape words place attributes")
-Node = collections.namedtuple("Node", "depth kind name bits place line children")
-Use = collections.namedtuple("Use", "place is_declaring is_local")
+class Net(NamedTuple):
+    """A net that a module declares, with its words and its attributes."""
+
+    name: str
+    shape: Shape
+    words: tuple[str, ...]
+    place: str
+    attributes: tuple[str, ...]
+
+
+class Node(NamedTuple):
+    """A node of a syntax tree, and those below it."""
+
+    depth: int
+    kind: str
+    name: str
+    bits: str
+    place: str
+    line: int
+    children: list[Node]
+
+
+class Use(NamedTuple):
+    """A use of a name: whether it declares a net, and whether it is in a generated block."""
+
+    place: str
+    is_declaring: bool
+    is_local: bool
 
 
 class Module:
     """What a module has in yosys's own language."""
 
-    def __init__(self, text):
+    def __init__(self, text: str) -> None:
         self.text = text
         nets = [Net(name, Shape.of(words), tuple(words.split()), *attributed(before)) for before, words, name in NET.findall(text)]
         self.nets = {net.name: net for net in nets}
         self.cells = {name: kind for kind, name in CELL.findall(text)}
         self.others = {name: kind for kind, name in OTHER.findall(text)}
 
-    def is_used(self, name):
+    def is_used(self, name: str) -> bool:
         """Whether anything but its declaration names a net."""
         return len(re.findall(rf" {re.escape(name)}(?=[ \n])", self.text)) > 1
 
-    def without(self, name):
+    def without(self, name: str) -> str:
         """Drops a net that nothing uses, and gives the text then."""
         self.text = re.sub(rf"(?:\n  attribute [^\n]*)*\n  wire (?:[^\n]* )?{re.escape(name)}(?=\n)", "", self.text, count=1)
         return self.text
 
-    def is_output(self, port):
+    def is_output(self, port: str) -> bool:
         """Whether something in the module may drive a port."""
         net = self.nets.get(port)
         return net is None or "input" not in net.words
 
-    def driven(self, modules):
+    def driven(self, modules: Mapping[str, Module]) -> set[str]:
         """The names of the nets that something in the module drives."""
         found = {name for target in DRIVEN.findall(self.text) for name in target.split()}
         for kind, ports in INSTANCE.findall(self.text):
@@ -93,20 +130,20 @@ class Module:
         return found
 
 
-def attributed(before):
+def attributed(before: str) -> tuple[str, tuple[str, ...]]:
     """The place of a net with these lines of attributes, and their names."""
     place = SOURCE.search(before)
     return place[1] if place else "", tuple(ATTRIBUTE.findall(before))
 
 
-def warned(said):
+def warned(said: str) -> set[tuple[str, str]]:
     """The places and the names of the nets that yosys declared by itself, as it says."""
     return set(WARNED.findall(said))
 
 
-def nodes(said):
+def nodes(said: str) -> Iterator[tuple[Node, list[Node]]]:
     """Each node of the syntax trees that yosys prints, with those above it."""
-    above = []
+    above: list[Node] = []
     for depth, kind, path, line, name, bits in NODE.findall(said):
         while above and above[-1].depth >= len(depth):
             above.pop()
@@ -117,7 +154,7 @@ def nodes(said):
         yield node, above[:-1]
 
 
-def use_of(node, above):
+def use_of(node: Node, above: list[Node]) -> Use:
     """What a name's node says of it: a port of an instance or of a gate declares a net, and so does the left side of an assignment."""
     kinds = [it.kind for it in above]
     inner = kinds[len(kinds) - kinds[::-1].index("ASSIGN"):] if "ASSIGN" in kinds else None
@@ -126,7 +163,7 @@ def use_of(node, above):
     return Use(node.place, is_left or is_port and node.line > 0, bool(GENERATED & set(kinds)))
 
 
-def is_first(path, place):
+def is_first(path: Sequence[Node], place: int) -> bool:
     """Whether a path of nodes goes through the first of those below the one at this place."""
     return path[place].children[0] is path[place + 1]
 
@@ -134,7 +171,7 @@ def is_first(path, place):
 class Trees:
     """What the syntax trees of all modules say, as they are before yosys changes them."""
 
-    def __init__(self, said):
+    def __init__(self, said: str) -> None:
         # By the module and the name: its uses in order; names that are selected of; and arrays of instances whose last index isn't 0.
         self.uses, self.selected, self.arrays = collections.defaultdict(list), set(), set()
         for node, above in nodes(said):
@@ -146,7 +183,7 @@ class Trees:
             if node.kind == "CELL" and above[-1].kind == "CELLARRAY" and not ends_with_0(above[-1].children[0]):
                 self.arrays.add((module, node.name[1:]))
 
-    def check_net(self, module, name):
+    def check_net(self, module: str, name: str) -> None:
         """Refuses a name that is no implicit net of Verilog: its first use in the module has to declare it, outside of what is generated."""
         uses = self.uses[module, name]
         if not any(use.is_declaring for use in uses):
@@ -159,7 +196,7 @@ class Trees:
             raise Fault("yosys takes an implicit net of a block for one of the module: declare it in the block")
 
 
-def ends_with_0(bounds):
+def ends_with_0(bounds: Node) -> bool:
     """Whether the range of an array ends with the constant 0."""
     last = bounds.children[-1]
     return len(bounds.children) == 2 and last.kind == "CONSTANT" and not last.bits.strip("0")
@@ -168,10 +205,10 @@ def ends_with_0(bounds):
 class Hierarchy:
     """All modules of a design in yosys's own language, in which names are looked up: those with these places aren't declared."""
 
-    def __init__(self, text, trees, places):
+    def __init__(self, text: str, trees: Trees, places: set[tuple[str, str]]) -> None:
         self.modules, self.trees, self.places = {name: Module(own) for name, own in modules_of(text).items()}, trees, places
 
-    def found(self, kind, path):
+    def found(self, kind: str, path: str) -> Iterator[tuple[str, str]]:
         """What a path down from a module may be: pairs of a module and the name there of a net, or of what can't be read."""
         module = self.modules.get(kind)
         if module is None:
@@ -184,32 +221,32 @@ class Hierarchy:
                 self.check_array(kind, path[:end])
                 yield from self.found(cell, path[end + 1:])
 
-    def is_declared(self, net):
+    def is_declared(self, net: Net | None) -> bool:
         """Whether the design declares a net, or Verilog does: a path that yosys took for a net isn't one."""
         is_path = net is not None and "." in net.name and (net.place, net.name) in self.places
         return net is not None and not is_path and not {JOINED, UNKNOWN} & set(net.attributes)
 
-    def implicit(self, kind):
+    def implicit(self, kind: str) -> list[Net]:
         """The nets of a module that yosys declared by itself."""
         return [net for net in self.modules[kind].nets.values() if (net.place, net.name) in self.places]
 
-    def is_of_interface(self, kind, net):
+    def is_of_interface(self, kind: str, net: Net) -> bool:
         """Whether a net of a module is of one of its interfaces: yosys declares it later, when it knows the interface."""
         module, first = self.modules[kind], net.name.partition(".")[0]
         return first in module.nets and "is_interface" in module.nets[first].attributes or self.is_interface(module.cells.get(first))
 
-    def is_interface(self, kind):
+    def is_interface(self, kind: str | None) -> bool:
         """Whether a module is an interface."""
         return kind in self.modules and INTERFACE in self.modules[kind].text
 
-    def check_array(self, kind, cell):
+    def check_array(self, kind: str, cell: str) -> None:
         """Refuses an instance of an array whose indices yosys doesn't keep."""
         last = cell.rpartition(".")[2]
         found = INDEX.fullmatch(last)
         if found and (source_of(kind), found[1]) in self.trees.arrays:
             raise Fault(f"{cell} is of an array of instances whose last index isn't 0, and yosys numbers them from 0: write it as [N:0]")
 
-    def signal(self, kind, path):
+    def signal(self, kind: str, path: str) -> Shape:
         """The net that a path down from a module is: its shape."""
         found = list(self.found(kind, path))
         if len(found) != 1:
@@ -228,10 +265,11 @@ class Names:
     """The declarations of the names that a design uses without any, by its modules and their names; what they stand for is refused where that
     isn't clear."""
 
-    def __init__(self, yosys, texts, said):
+    def __init__(self, yosys: Yosys, texts: Mapping[str, bytes], said: str) -> None:
         self.yosys, self.texts = yosys, {path: Text(text) for path, text in texts.items()}
         self.places, self.trees = warned(said), Trees(said)
-        self.declared, self.known = collections.defaultdict(dict), {}
+        self.declared = collections.defaultdict[str, dict[str, str]](dict)
+        self.known: dict[tuple[str, str], Net] = {}
         self.forbidding = {name for text in self.texts.values() for name, *_, is_allowed in text.spans() if not is_allowed}
         self.text = yosys.text("below.il")
         below, every = (Hierarchy(text, self.trees, self.places) for text in [self.text, yosys.text("all.il")])
@@ -246,12 +284,12 @@ class Names:
         # Yosys first reads those of interfaces as names without a declaration.
         self.way = DECLARED_LATER if of_interfaces else DECLARED
 
-    def fault(self, net, why):
+    def fault(self, net: Net, why: object) -> Fault:
         """The fault that a name isn't declared, or can't be read if it is a path."""
         what = "can't be read" if "." in net.name else "isn't declared"
         return Fault(self.yosys.told(f"{net.place}: {net.name[1:]} {what}: {why}"))
 
-    def declare(self, hierarchy, kind, net):
+    def declare(self, hierarchy: Hierarchy, kind: str, net: Net) -> None:
         """Declares what a net of a module of this kind stands for."""
         base, name = source_of(kind), net.name[1:]
         self.known[base, net.name] = net
@@ -269,7 +307,7 @@ class Names:
             raise self.fault(net, f"in instances of {base} it has different ranges or signs: let each have a module of its own")
         self.known[base, f"\\{own}"] = net
 
-    def check_net(self, base, net):
+    def check_net(self, base: str, net: Net) -> None:
         """Refuses a name that is no implicit net of Verilog."""
         if net.name.startswith("\\$"):
             raise self.fault(net, "yosys has no such system function; a net without a driver has any value in each step")
@@ -280,19 +318,21 @@ class Names:
         if base in self.forbidding:
             raise self.fault(net, "`default_nettype none forbids implicit nets")
 
-    def unknown(self, said):
+    def unknown(self, said: str) -> Fault | None:
         """The fault that a name isn't declared, where yosys says so of one that it hadn't taken for a net; else None."""
         found = REFUSED.search(said)
-        why = LATER if found and f"{found[2]}\n" in self.text else ABOVE if found and "." in found[2] else UNKNOWN_NAME
-        return found and self.fault(Net(found[2], None, (), found[1], ()), why)
+        if not found:
+            return None
+        place, name = found.groups()
+        why = LATER if f"{name}\n" in self.text else ABOVE if "." in name else UNKNOWN_NAME
+        return self.fault(Net(name, Shape(1, 0, False, False), (), place, ()), why)
 
-    def declaring(self):
+    def declaring(self) -> dict[str, bytes]:
         """The texts of the Verilog files with these declarations."""
-        lines = {module: "".join(f"{line}{name} ; " for name, line in own.items()) for module, own in self.declared.items()}
-        lines = {module: line.encode("utf-8", "surrogateescape") for module, line in lines.items()}
+        lines = {module: encoded("".join(f"{line}{name} ; " for name, line in own.items())) for module, own in self.declared.items()}
         return {path: text.with_lines(lines) for path, text in self.texts.items()}
 
-    def checked(self, text, said):
+    def checked(self, text: str, said: str) -> str:
         """The design as yosys read it with these declarations, without those that a module doesn't use, once it is checked that each other
         one is what it is joined with, and that nothing is written by it. Yosys said this of it."""
         hierarchy = Hierarchy(text, self.trees, warned(said))
@@ -308,7 +348,7 @@ class Names:
         check_names(modules_of(JOINED_NET.sub("", text)))
         return text
 
-    def check(self, hierarchy, kind, net):
+    def check(self, hierarchy: Hierarchy, kind: str, net: Net) -> None:
         """Refuses a declared net that isn't what it is joined with, or that is written."""
         first = self.known.get((source_of(kind), net.name), net)
         try:

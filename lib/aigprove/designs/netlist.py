@@ -1,8 +1,18 @@
 """Designs as yosys writes them, in its own language and as JSON: what is asked, and which signals have which names."""
+from __future__ import annotations
+
 import collections
 import re
+from collections.abc import Callable, Iterator, Mapping, Sequence
+from typing import Any, NamedTuple
 
-from aigprove.processes.programs import Fault
+from aigprove.circuits.aiger import Fault
+
+# What a file of yosys's in JSON has; a bit of a net there: a number, or 0, 1, x or z; and a clock,
+# with whether its rising edges count.
+Json = dict[str, Any]
+Bit = int | str
+Clock = tuple[str, bool]
 
 CLOCKS = {"CLK", "RD_CLK", "WR_CLK"}
 MANY = "--multiclock takes any, and a step is then a moment in which inputs and clocks may change"
@@ -39,16 +49,21 @@ STORED, INDEX = ".stored", re.compile(r"(\[[0-9]+\])?$")
 PART = re.compile(r"(.+)\$\[([0-9]+):([0-9]+)\]")
 
 
-class Cell(collections.namedtuple("Cell", "module type name place")):
+class Cell(NamedTuple):
     """A cell in yosys's own language, whose names begin with a sign; a module has no type."""
 
+    module: str
+    type: str | None
+    name: str
+    place: str
+
     @property
-    def label(self):
+    def label(self) -> str:
         """The module's name, and its own if the design gives one."""
         return self.module[1:] + (f".{self.name[1:]}" if self.name.startswith("\\") else "")
 
 
-def cells_of(text):
+def cells_of(text: str) -> Iterator[Cell]:
     """All modules of a design in yosys's own language, each before its cells."""
     module = place = ""
     for kind, first, second, src in LINE.findall(text):
@@ -61,12 +76,12 @@ def cells_of(text):
             yield Cell(module, first, second, place)
 
 
-def modules_of(text):
+def modules_of(text: str) -> dict[str, str]:
     """The text of each module of a design in yosys's own language, with the attributes before it, by its name."""
     return {found[1]: f"{part}\n" for part in text.split("\nend") if (found := re.search(r"\nmodule (\S+)", part))}
 
 
-def check_names(modules):
+def check_names(modules: Mapping[str, str]) -> None:
     """Refuses a name with points that is a path to something else, too: yosys takes one for the other."""
     for name, text in modules.items():
         cells = None
@@ -74,14 +89,14 @@ def check_names(modules):
             if cells is None:
                 cells = {cell: kind for kind, cell in CELLS.findall(text)}
             for end in (found.start() for found in re.finditer(r"\.", dotted)):
-                other = modules.get(cells.get(dotted[:end]), "")
+                other = modules.get(cells.get(dotted[:end], ""), "")
                 # What an interface has is declared by paths.
                 if INTERFACE not in other and re.search(rf"\n  (?:wire|memory|cell) [^\n]*\\{re.escape(dotted[end + 1:])}(?=[\n.])", other):
                     own, cell, inner = dotted[1:], dotted[1:end], dotted[end + 1:]
                     raise Fault(f"{base_of(name)} has a net of the name {own}, and an instance {cell} with {inner}: rename one of them")
 
 
-def check_constants(modules):
+def check_constants(modules: Mapping[str, str]) -> None:
     """Refuses nets that are given different constants, as by initial blocks where nothing else writes them: yosys takes one of these."""
     for name, text in modules.items():
         values, given = collections.defaultdict(set), list(constants_in(text))
@@ -94,7 +109,7 @@ def check_constants(modules):
                 raise Fault(f"{base_of(name)}: {net[1:]} has several drivers, or several initial values")
 
 
-def constants_in(text):
+def constants_in(text: str) -> Iterator[tuple[str, str]]:
     """What a module's text gives to nets once: pairs of a target and a constant, its lowest bit first, or another text if it is none."""
     yield from ((target, bits[::-1]) for target, bits in CONSTANT.findall(text))
     for process in PROCESS.findall(text):
@@ -103,7 +118,7 @@ def constants_in(text):
             yield from ((target, known.get(source, source)[::-1]) for target, source in UPDATED.findall(own))
 
 
-def bits_in(target, text):
+def bits_in(target: str, text: str) -> Iterator[tuple[str, int]]:
     """The bits of nets in the target of an assignment in the text of a module, from the lowest on: pairs of a name and a place."""
     for net, first, last in reversed(PARTS.findall(target)):
         width = None if first else re.search(rf"\n  wire (?:width ([0-9]+) )?[^\n]*{re.escape(net)}(?=\n)", text)
@@ -111,23 +126,23 @@ def bits_in(target, text):
         yield from ((net, i) for i in range(ends[0], ends[1] + 1))
 
 
-def base_of(name):
+def base_of(name: str) -> str:
     """The name that a module has in the design: that of one with parameters stands behind the second sign."""
     return name.split("\\")[1]
 
 
-def source_of(name):
+def source_of(name: str) -> str:
     """The name that a module has in the text: that of one with interfaces has theirs behind it."""
     return base_of(name).partition("$interfaces$")[0]
 
 
-def roots_of(cells):
+def roots_of(cells: Sequence[Cell]) -> list[str]:
     """The names of the modules that no other has, in order."""
     types = {cell.type for cell in cells}
     return [cell.module[1:] for cell in cells if cell.type is None and cell.module not in types]
 
 
-def reached(cells, root):
+def reached(cells: Sequence[Cell], root: str) -> set[str]:
     """The names of a module and of all below it."""
     found, left = set(), [root]
     while left:
@@ -136,18 +151,18 @@ def reached(cells, root):
     return found
 
 
-def item_of_x(text):
+def item_of_x(text: str) -> str | None:
     """The place of a case with an item that is x or z, if there is one."""
     item = ITEM.search(text)
-    return item and SWITCH.findall(text, 0, item.start())[-1]
+    return str(SWITCH.findall(text, 0, item.start())[-1]) if item else None
 
 
-def by_modules(call, text):
+def by_modules(call: Callable[[str], str], text: str) -> str:
     """A design in yosys's own language with what is made of the text of each module."""
     return "\nmodule ".join(map(call, text.split("\nmodule ")))
 
 
-def renamed(module):
+def renamed(module: str) -> str:
     """A module in which what is in tasks, functions and blocks has names that rest on these alone: by yosys's own no register would have a
     partner in another file."""
     if "$func$" not in module and UNNAMED not in module:
@@ -155,10 +170,11 @@ def renamed(module):
     return numbered(numbered(module, CALL, ""), BLOCK, UNNAMED)
 
 
-def numbered(module, pattern, behind):
+def numbered(module: str, pattern: re.Pattern[str], behind: str) -> str:
     """A module in which such names are the scope, what is to stand behind it, and the inner name; of several with one name each has its own
     number, from 0. Where the design has such a name itself nothing changes."""
-    numbers, names = collections.defaultdict(set), {}
+    numbers = collections.defaultdict[tuple[str, str], set[int]](set)
+    names: dict[tuple[str | Any, ...], str] = {}
     for scope, number, inner in pattern.findall(module):
         numbers[scope, inner].add(int(number))
     for (scope, inner), own in numbers.items():
@@ -168,7 +184,7 @@ def numbered(module, pattern, behind):
     return changed if len(set(changed.split())) == len(set(module.split())) else module
 
 
-def paths_of(nets):
+def paths_of(nets: Mapping[str, Json]) -> dict[str, str]:
     """The paths of the nets of a flat module that are below the top, by the names that they have once those in tasks are named."""
     paths = {}
     for (name, net), line in zip(nets.items(), renamed("".join(f"\\{name}\n" for name in nets)).split("\n")):
@@ -179,28 +195,28 @@ def paths_of(nets):
     return paths
 
 
-def opened(text):
+def opened(text: str) -> str:
     """A design in which each x is a wire that nothing drives: yosys would choose its value, or another for each reader. What isn't enabled
     has the value 0, and not x; and the first of several items that fit counts, though the design says that only one does."""
     return by_modules(freed, PARALLEL.sub("", UNREACHED.sub(r"\1\2'0", text)))
 
 
-def freed(module):
+def freed(module: str) -> str:
     """A module with a wire that nothing drives for each run of bits that are x."""
     if not X.search(module):
         return module
     widths = []
 
-    def wire(bits):
+    def wire(bits: str) -> str:
         widths.append(len(bits))
         return f"$free${len(widths)}"
 
-    def spelled(found):
+    def spelled(found: re.Match[str]) -> str:
         bits = found[2].rjust(int(found[1]), found[2][0])
         parts = [wire(part) if "x" in part else f"{len(part)}'{part}" for part in re.findall("x+|[^x]+", bits)]
         return f" {{ {' '.join(parts)} }}"
 
-    def valued(found):
+    def valued(found: re.Match[str]) -> str:
         is_initial = INITIAL.search(found[0])
         return found[0] if is_initial else VALUES.sub(lambda line: X.sub(spelled, line[0]), found[0])
 
@@ -208,17 +224,17 @@ def freed(module):
     return head + end + "".join(f"  wire width {width} $free${i}\n" for i, width in enumerate(widths, 1)) + body
 
 
-def identifier(module, name):
+def identifier(module: Json, name: str) -> str:
     """A net's name as yosys's own language has it: there none begins with #, with which a comment begins in a script."""
     return name if module["netnames"][name]["hide_name"] else f"\\{name}"
 
 
-def pattern_of(name):
+def pattern_of(name: str) -> str:
     """The pattern that yosys finds this name by, and no other."""
     return re.sub(r"(\W)", r"\\\1", name)
 
 
-def names_of(module):
+def names_of(module: Json) -> dict[Bit, str]:
     """A name for each bit of a module: of a port, else of a net that the design names, else of another."""
     names = {}
     ranked = sorted(module["netnames"].items(), key=lambda it: (it[0] in module["ports"], not it[1]["hide_name"]))
@@ -227,7 +243,7 @@ def names_of(module):
     return names
 
 
-def bits_of(module):
+def bits_of(module: Json) -> Iterator[tuple[Bit, str]]:
     """Each bit of the nets that the design names, and its name as a file has it."""
     for name, net in module["netnames"].items():
         if not net["hide_name"]:
@@ -235,7 +251,7 @@ def bits_of(module):
             yield from ((bit, name if is_one else f"{name}[{i}]") for i, bit in enumerate(net["bits"]) if not isinstance(bit, str))
 
 
-def aliases(module):
+def aliases(module: Json) -> dict[str, list[str]]:
     """All names of each bit that has one, by each of them."""
     names = collections.defaultdict(list)
     for bit, name in bits_of(module):
@@ -243,30 +259,30 @@ def aliases(module):
     return {name: own for own in names.values() for name in own}
 
 
-def cells_like(module, kind):
+def cells_like(module: Json, kind: str) -> list[Json]:
     return [cell for cell in module["cells"].values() if cell["type"] == kind]
 
 
-def types(module):
+def types(module: Json) -> set[str]:
     """The types of a module's cells."""
     return {cell["type"] for cell in module["cells"].values()}
 
 
-def constants(module):
+def constants(module: Json) -> set[str | None]:
     """The names of what has any value, which is the same in each step."""
     names = names_of(module)
     return {names.get(bit) for cell in cells_like(module, "$anyconst") for bit in cell["connections"]["Y"]}
 
 
-def outputs(cell):
+def outputs(cell: Json) -> list[Bit]:
     return [bit for port, bits in cell["connections"].items() if cell["port_directions"].get(port) == "output" for bit in bits]
 
 
-def check_drivers(top, module):
+def check_drivers(top: str, module: Json) -> None:
     """Refuses nets that are z at times or have several drivers, of which one may be a constant."""
     names, driven = names_of(module), set()
     valued = [cell for cell in module["cells"].values() if cell["type"] not in ("$eqx", "$nex")]
-    open_bits = [names.get((outputs(cell) or [None])[0]) for cell in valued if any("z" in bits for bits in cell["connections"].values())]
+    open_bits = [names.get((outputs(cell) or [""])[0]) for cell in valued if any("z" in bits for bits in cell["connections"].values())]
     for name in open_bits + [name for name, net in module["netnames"].items() if "z" in net["bits"]]:
         raise Fault(f"{top}: {name} is z at times, and tristate is not taken")
     inputs = [(name, bit) for name, port in module["ports"].items() if port["direction"] == "input" for bit in port["bits"]]
@@ -280,10 +296,11 @@ def check_drivers(top, module):
         driven.add(bit)
 
 
-def clock_of(top, module):
+def clock_of(top: str, module: Json) -> Clock | None:
     """The name of the clock, and whether its rising edges count; None without registers. Several are refused by name."""
     names = names_of(module)
-    clocks, read = set(), set()
+    clocks: set[Clock] = set()
+    read: set[str | None] = set()
     for cell in module["cells"].values():
         for port, bits in cell["connections"].items():
             if port in CLOCKS:
@@ -304,7 +321,7 @@ def clock_of(top, module):
     return next(iter(clocks), None)
 
 
-def stored(module):
+def stored(module: Json) -> Iterator[tuple[str, str]]:
     """New names for what registers with an asynchronous reset hold: the name in the design has its value with the reset."""
     ranked = sorted(module["netnames"].items(), key=lambda it: (not it[1]["hide_name"], -it[0].count(".")))
     nets = {tuple(net["bits"]): (name, net["hide_name"]) for name, net in ranked}
@@ -320,12 +337,12 @@ def stored(module):
                 yield old[0], stored_name(new)
 
 
-def stored_name(name):
+def stored_name(name: str) -> str:
     """The name of what a register holds whose value with the reset has this name: that of a bit is one of a bit, too."""
     return INDEX.sub(f"{STORED}\\1", name, count=1)
 
 
-def all_names(name, known):
+def all_names(name: str, known: Mapping[str, list[str]]) -> list[str]:
     """All names of a register of this name, where these are known of signals."""
     if STORED not in name:
         return known.get(name, [name])
@@ -333,7 +350,7 @@ def all_names(name, known):
     return list(map(stored_name, known.get(own, [own])))
 
 
-def free_names(module):
+def free_names(module: Json) -> Iterator[tuple[str, str]]:
     """New names for inputs that stand for free values: of the net or its bits, else x0, x1 and so on."""
     taken, count = set(module["netnames"]), 0
     for name, port in module["ports"].items():

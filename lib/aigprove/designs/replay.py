@@ -1,12 +1,20 @@
 """A run that yosys simulated: the values of all signals of a design, and which of them an assertion reads."""
+from __future__ import annotations
+
 import collections
 import re
+from collections.abc import Container, Iterable, Iterator, Mapping, Sequence
+from typing import TYPE_CHECKING, NamedTuple
 
 from aigprove.circuits import simulation
+from aigprove.circuits.aiger import Circuit, Fault
 from aigprove.circuits.simulation import SIMULATED
-from aigprove.designs.netlist import STORED
+from aigprove.circuits.witness import Witness
+from aigprove.designs.netlist import STORED, Bit, Json
 from aigprove.output.signals import number, word
-from aigprove.processes.programs import Fault
+
+if TYPE_CHECKING:
+    from aigprove.designs.verilog import Design
 
 # Time units of a step in what yosys writes.
 STEP = 10
@@ -16,14 +24,21 @@ BIT = re.compile(r"(.+)\[([0-9]+)\]")
 CLOCKED = re.compile(r"\$[a-z]*ff|\$_[A-Z]*FF")
 
 
-class Read(collections.namedtuple("Read", "name back is_direct")):
+class Read(NamedTuple):
     """A signal that an assertion reads, how many steps before, and whether it does so by no other signal that has a name."""
 
+    name: str
+    back: int
+    is_direct: bool
 
-def values_of(text, wanted):
+
+def values_of(text: str, wanted: Container[str]) -> list[dict[str, str]]:
     """The values of these signals in each step, the highest bit first, in a value change dump of yosys's."""
-    scopes, codes, now, steps = [], collections.defaultdict(list), {}, []
-    time = None
+    scopes: list[str] = []
+    codes = collections.defaultdict[str, list[str]](list)
+    now: dict[str, str] = {}
+    steps: list[dict[str, str]] = []
+    time: int | None = None
     for words in map(str.split, text.splitlines()):
         if words[:1] == ["$scope"]:
             scopes.append(words[2])
@@ -45,8 +60,10 @@ def values_of(text, wanted):
 class Module:
     """A flat module in JSON of yosys's, and what each bit has: a name, and a cell that makes it."""
 
-    def __init__(self, module):
-        self.module, self.names, self.makers = module, {}, {}
+    def __init__(self, module: Json) -> None:
+        self.module = module
+        self.names: dict[Bit, str] = {}
+        self.makers: dict[Bit, Json] = {}
         nets = {name: net for name, net in module["netnames"].items() if not net["hide_name"]}
         # Of several names the outermost stays, and the shortest.
         for name in sorted(nets, key=lambda it: (-it.count("."), -len(it), it)):
@@ -56,49 +73,50 @@ class Module:
                 if cell["port_directions"].get(port) == "output":
                     self.makers.update(dict.fromkeys(bits, cell))
 
-    def place(self, name, index):
+    def place(self, name: str, index: int) -> int:
         """Which bit of a signal, from the lowest on, has this index."""
         net = self.module["netnames"][name]
-        return -1 if net.get("upto") else index - net.get("offset", 0)
+        return -1 if net.get("upto") else index - int(net.get("offset", 0))
 
-    def width(self, name):
+    def width(self, name: str) -> int:
         return len(self.module["netnames"][name]["bits"])
 
-    def is_input(self, name):
-        return self.module["ports"].get(name, {}).get("direction") == "input"
+    def is_input(self, name: str) -> bool:
+        return bool(self.module["ports"].get(name, {}).get("direction") == "input")
 
-    def is_held(self, name):
+    def is_held(self, name: str) -> bool:
         """Whether a signal is what a register holds."""
         cell = self.makers.get(self.module["netnames"][name]["bits"][0])
         return cell is not None and bool(CLOCKED.match(cell["type"]))
 
-    def read_by(self, name):
+    def read_by(self, name: str) -> list[Read]:
         """What the assertion of this name reads, up to registers and inputs, the nearest first: registers without a name are those that
         yosys makes of an assertion at a clock's edge, which reads what was there a step before. With several clocks each register has such
         ones that hold its last value, so each is passed once: a way around that goes back without an end."""
         cell = self.module["cells"].get(name)
         ports = cell["connections"] if cell else {}
         left = collections.deque((bit, 0, True) for port in ("A", "EN") for bit in ports.get(port, []) if not isinstance(bit, str))
-        seen, passed, found = set(left), set(), {}
+        seen, passed = set(left), set[tuple[Bit, bool]]()
+        found: dict[tuple[str, int], Read] = {}
         while left and len(found) < MOST:
             bit, back, is_direct = left.popleft()
-            name, maker = self.names.get(bit), self.makers.get(bit)
-            if name:
-                found.setdefault((name, back), Read(name, back, is_direct))
+            own, maker = self.names.get(bit), self.makers.get(bit)
+            if own:
+                found.setdefault((own, back), Read(own, back, is_direct))
             is_clocked = maker is not None and bool(CLOCKED.match(maker["type"]))
-            if maker is None or is_clocked and (name or (bit, is_direct) in passed):
+            if maker is None or is_clocked and (own or (bit, is_direct) in passed):
                 continue
             passed.update([(bit, is_direct)] * is_clocked)
             for port, bits in maker["connections"].items():
                 if maker["port_directions"].get(port) != "output" and port != "CLK":
-                    for it in ((bit, back + is_clocked, is_direct and not name) for bit in bits if not isinstance(bit, str)):
+                    for it in ((bit, back + is_clocked, is_direct and not own) for bit in bits if not isinstance(bit, str)):
                         if it not in seen:
                             seen.add(it)
                             left.append(it)
         return list(found.values())
 
 
-def read_as(name):
+def read_as(name: str) -> str:
     """The name with which a signal is read in the design, also of what a register, or a bit of one, holds beside that."""
     return BIT.sub(r"\1", name).removesuffix(STORED) if STORED in name else name
 
@@ -106,12 +124,12 @@ def read_as(name):
 class Replay:
     """What yosys finds where it runs a witness on a design."""
 
-    def __init__(self, design, circuit, told):
-        if len(told.steps) * len(circuit.gates) > SIMULATED:
-            raise Fault(f"the run has {len(told.steps)} steps")
-        failed, self.dump = design.run(told)
-        self.module, self.told = design.module, told
-        name, last = design.assertions[told.bad][0], len(told.steps) - 1
+    def __init__(self, design: Design, circuit: Circuit, trace: Witness) -> None:
+        if len(trace.steps) * len(circuit.gates) > SIMULATED:
+            raise Fault(f"the run has {len(trace.steps)} steps")
+        failed, self.dump = design.run(trace)
+        self.module, self.trace = design.module, trace
+        name, last = design.assertions[trace.bad][0], len(trace.steps) - 1
         reads = self.module.read_by(name)
         held = {f"l{i}": circuit.name("l", i).decode("utf-8", "replace") for i in range(len(circuit.latches))}
         bits = {place: BIT.fullmatch(name) for place, name in held.items()}
@@ -127,30 +145,30 @@ class Replay:
         self.direct = [it for it in reads if it.is_direct and it.name not in inputs]
         self.trouble = self.differing(circuit, held, words) or self.other(design, failed, f"{design.top}.{name} (")
 
-    def shown(self, name, t):
+    def shown(self, name: str, t: int) -> str:
         """A signal's value in a step, as it is printed."""
         bits = self.values[t][name] if t < len(self.values) else "x"
         return f"{word(name)}={number(list(reversed(bits.rjust(self.module.width(name), '0'))))}"
 
-    def changed(self, t, names, at_first):
+    def changed(self, t: int, names: Iterable[str], at_first: Container[str]) -> list[str]:
         """The signals whose values are others than in the step before; of the first step those that aren't among what is there at first."""
         return [self.shown(name, t) for name in names if (self.shown(name, t) != self.shown(name, t - 1) if t else name not in at_first)]
 
-    def read(self, last):
+    def read(self, last: int) -> Iterator[str]:
         """A line of the values that the assertion read, where it failed in this step, by the step in which it read them."""
         for back in sorted({it.back for it in self.direct}):
             values = [self.shown(it.name, last - back) for it in self.direct if it.back == back and back <= last]
             if values:
                 yield f"in step {last - back} it reads {' '.join(values)}"
 
-    def other(self, design, failed, name):
+    def other(self, design: Design, failed: Sequence[str], name: str) -> str | None:
         """What fails where yosys runs the design, if that isn't the assertion of this name."""
         return None if any(it.startswith(name) for it in failed) else f"{design.yosys.told(' and '.join(failed)) or 'none'} fails"
 
-    def differing(self, circuit, held, words):
+    def differing(self, circuit: Circuit, held: Mapping[str, str], words: Mapping[str, str]) -> str | None:
         """A register that has another value where yosys runs the design than in the file, if there is one."""
-        steps = [row.replace("x", "0") for row in self.told.steps]
-        for t, values in enumerate(simulation.run(circuit, self.told.start.replace("x", "0"), steps)):
+        steps = [row.replace("x", "0") for row in self.trace.steps]
+        for t, values in enumerate(simulation.run(circuit, self.trace.start.replace("x", "0"), steps)):
             for i, latch in enumerate(circuit.latches):
                 name, found = words[f"l{i}"], BIT.fullmatch(held[f"l{i}"])
                 if t < len(self.values) and name in self.values[t]:

@@ -1,9 +1,12 @@
 """Texts in Verilog once their macros are expanded: which modules they have, and what yosys reads otherwise than Verilog has it, without a
 word. That is refused, by its place."""
+from __future__ import annotations
+
 import collections
 import re
+from collections.abc import Iterable, Iterator, Mapping
 
-from aigprove.processes.programs import Fault
+from aigprove.circuits.aiger import Fault, decoded
 
 # What yosys prints of a file whose macros are expanded.
 EXPANDED = re.compile(rb"^-- Verilog code after preprocessor --\n(.*?)^-- END OF DUMP --$\n?", re.MULTILINE | re.DOTALL)
@@ -33,33 +36,34 @@ BINDING = "bind is read where it names a module of the files, and one instance: 
 class Text:
     """A text without comments and strings, in whose place are blanks, and its places in the files that it is made of."""
 
-    def __init__(self, text):
+    def __init__(self, text: bytes) -> None:
         self.text = text
         self.words = SPACE.sub(lambda found: re.sub(rb"[^\n]", b" ", found[0]), text)
 
-    def place(self, offset):
+    def place(self, offset: int) -> str:
         """The file and the line of an offset."""
-        files = [["", 0]]
+        paths, lines = [""], [0]
         for found in PUSHED.finditer(self.text, 0, offset):
             if found[0] == b"\n":
-                files[-1][1] += 1
+                lines[-1] += 1
             elif found[1] is not None:
-                files.append([found[1].decode("utf-8", "surrogateescape"), 0])
-            elif len(files) > 1:
-                files.pop()
-        path, line = files[-1]
-        return f"{path}:{line}"
+                paths.append(decoded(found[1]))
+                lines.append(0)
+            elif len(paths) > 1:
+                paths.pop()
+                lines.pop()
+        return f"{paths[-1]}:{lines[-1]}"
 
-    def fault(self, offset, why):
+    def fault(self, offset: int, why: str) -> Fault:
         return Fault(f"{self.place(offset)}: {why}")
 
-    def check(self, below):
+    def check(self, below: Iterable[str]) -> None:
         """Refuses what yosys reads otherwise than Verilog has it, in these modules and outside of all."""
         for offset, why in sorted(self.misread()):
             if self.module(offset) in {None, *below}:
                 raise self.fault(offset, why)
 
-    def misread(self):
+    def misread(self) -> Iterator[tuple[int, str]]:
         """The places of what yosys reads otherwise than Verilog has it, and what to say of it."""
         for found in INITIAL.finditer(self.words):
             if b"#" in self.words[found.end():self.ending(found.end())]:
@@ -71,11 +75,11 @@ class Text:
             dimensions = rb"(?<![\w$.`])(%s)\s*(?:\[[^][]*\]\s*)+%s[A-Za-z_\\]" % (b"|".join(map(re.escape, names)), OPERATORS)
             yield from ((found.start(1), DIMENSIONS) for found in re.finditer(dimensions, self.words))
 
-    def module(self, offset):
+    def module(self, offset: int) -> str | None:
         """The name of the module at an offset; None outside of all."""
         return next((name for name, first, end, _ in self.spans() if first <= offset < end), None)
 
-    def ending(self, offset):
+    def ending(self, offset: int) -> int:
         """Where the statement ends that begins at an offset."""
         depth = 0
         for found in PART.finditer(self.words, offset):
@@ -85,7 +89,7 @@ class Text:
                 return found.end()
         return len(self.words)
 
-    def types(self):
+    def types(self) -> Iterator[bytes]:
         """The names of types that it declares."""
         for found in TYPED.finditer(self.words):
             depth, place = 0, found.end()
@@ -94,7 +98,7 @@ class Text:
                 place += 1
             yield from re.findall(rb"[A-Za-z_][\w$]*", self.words[found.end():place])[-1:]
 
-    def spans(self):
+    def spans(self) -> Iterator[tuple[str, int, int, bool]]:
         """The name of each module, where it begins, where its last word is, and whether implicit nets are allowed in it."""
         name, first, is_next, is_allowed = None, 0, False, True
         for found in WORD.finditer(self.words):
@@ -104,11 +108,11 @@ class Text:
             elif word in (b"module", b"macromodule"):
                 is_next, first = True, found.start()
             elif is_next and not word.startswith(b"`") and word not in (b"automatic", b"static"):
-                name, is_next = word.lstrip(b"\\").decode("utf-8", "surrogateescape"), False
+                name, is_next = decoded(word.lstrip(b"\\")), False
             elif word == b"endmodule" and name is not None:
                 yield name, first, found.start(), is_allowed
 
-    def with_lines(self, lines):
+    def with_lines(self, lines: Mapping[str, bytes]) -> bytes:
         """The text with lines before the end of each module, by its name."""
         parts, last = [], 0
         for module, _, end, _ in self.spans():
@@ -116,10 +120,10 @@ class Text:
             last = end
         return b"".join([*parts, self.text[last:]])
 
-    def without_bound(self, lines):
+    def without_bound(self, lines: dict[str, bytes]) -> bytes:
         """The text without the instances that it binds to modules, which are added to the lines of these."""
 
-        def blank(found):
+        def blank(found: re.Match[bytes]) -> bytes:
             lines[found[1].decode()] += b" ".join(self.text[found.start(2):found.end(2)].split()) + b" "
             return re.sub(rb"[^\n]", b" ", found[0])
 
@@ -130,7 +134,7 @@ class Text:
         return b"".join([*parts, self.text[last:]])
 
 
-def expanded(data):
+def expanded(data: bytes) -> list[bytes]:
     """The texts of the files in what yosys printed of them."""
     texts = EXPANDED.findall(data)
     if any(data.count(mark) != len(texts) for mark in MARKS):
@@ -138,20 +142,20 @@ def expanded(data):
     return texts
 
 
-def bound(texts):
+def bound(texts: Mapping[str, bytes]) -> dict[str, bytes]:
     """Texts, by their files' paths, in which instances that are bound to modules stand in these."""
-    lines = collections.defaultdict(bytes)
-    texts = {path: Text(Text(text).without_bound(lines)) for path, text in texts.items()}
-    for text in texts.values():
+    lines = collections.defaultdict[str, bytes](bytes)
+    without = {path: Text(Text(text).without_bound(lines)) for path, text in texts.items()}
+    for text in without.values():
         if found := BIND.search(text.words):
             raise text.fault(found.start(1), BINDING)
-    known = {name for text in texts.values() for name, *_ in text.spans()}
+    known = {name for text in without.values() for name, *_ in text.spans()}
     for name in lines.keys() - known:
         raise Fault(f"{name}: {BINDING}")
-    return {path: text.with_lines(lines) for path, text in texts.items()}
+    return {path: text.with_lines(lines) for path, text in without.items()}
 
 
-def moved(text, before, now):
+def moved(text: bytes, before: Iterable[int], now: Iterable[int]) -> bytes:
     """A text whose folders had these descriptors, and now have others."""
     numbers = dict(zip(before, now))
     return FOLDER.sub(lambda found: found[1] + b"%d" % numbers.get(int(found[2]), int(found[2])), text)

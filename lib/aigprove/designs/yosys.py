@@ -1,5 +1,7 @@
 """Yosys, which runs scripts in a folder. It is told names of our own alone, whatever bytes are in the paths that a user gives: to yosys a
 path may be a pattern or a command."""
+from __future__ import annotations
+
 import contextlib
 import json
 import os
@@ -10,10 +12,21 @@ import subprocess
 import tempfile
 import threading
 import time
+from collections.abc import Callable, Iterator, Mapping, Sequence
+from typing import Any
 
+from aigprove.circuits.aiger import Fault
+from aigprove.designs.front_ends import File
+from aigprove.designs.netlist import Json
 from aigprove.designs.texts import EXPANDED
-from aigprove.processes.programs import Fault, ending, plain
+from aigprove.output.messages import ending, plain
+from aigprove.processes.groups import Words
+from aigprove.processes.scheduler import Task
 
+# A script by where the folder is, the file that it writes to once it is ready, the paths of the
+# files' copies, and those of the folders beside them; and texts by descriptors.
+Script = Callable[[str, str, Mapping[str, str], Sequence[str]], str]
+Texts = Callable[[Sequence[int]], Mapping[str, bytes]]
 # A warning, which may go on in further lines, and the place before it.
 WARNING = re.compile(r"^(?:(.*): )?Warning: (.*(?:\n {4}.*)*)$", re.MULTILINE)
 # Warnings that aren't told, and why.
@@ -25,28 +38,29 @@ HUSHED = {
 LONGEST = 1000
 
 
-class Late(Fault):
+class TranslationTimeout(Fault):
     """The time was over before there was a file to ask about."""
 
 
 class Yosys:
     """Runs scripts up to a deadline, with copies of a design's files, each beside links to what stands beside the file."""
 
-    def __init__(self, files, folder, programs, deadline):
+    def __init__(self, files: Sequence[File], folder: str, task: Task, deadline: float) -> None:
         if shutil.which("yosys") is None:
             raise Fault("yosys is not installed, which makes a file of a design")
-        self.path, self.folder, self.programs, self.deadline = files[0].path, folder, programs, deadline
+        self.path, self.folder, self.task, self.deadline = files[0].path, folder, task, deadline
         self.beside = list(dict.fromkeys(os.path.dirname(file.path) or "." for file in files))
         for i, path in enumerate(self.beside):
             self.link(path, self.place(f"{i}/source"))
         # The path of each file, and where its copy is in the folder.
         self.copies = {file.path: self.copied(i, file) for i, file in enumerate(files)}
         # The folders' descriptors in the last run that read the design.
-        self.descriptors = []
+        self.descriptors: Sequence[int] = []
         # What names stand for in what yosys says, and of what it warned when it read the design, and later.
-        self.meanings, self.warnings = {}, []
+        self.meanings: dict[str, str] = {}
+        self.warnings: list[str] = []
 
-    def link(self, path, folder):
+    def link(self, path: str, folder: str) -> None:
         """Makes a folder of links to what a folder has."""
         os.makedirs(folder)
         entries = []
@@ -55,7 +69,7 @@ class Yosys:
         for entry in entries:
             os.symlink(os.path.join(os.path.abspath(path), entry), os.path.join(folder, entry))
 
-    def copied(self, i, file):
+    def copied(self, i: int, file: File) -> str:
         """The place of a copy of a file, by a name that nothing beside it has."""
         folder = f"{self.beside.index(os.path.dirname(file.path) or '.')}/source"
         name = f"design{i or ''}.v"
@@ -65,46 +79,47 @@ class Yosys:
             out.write(file.data)
         return f"{folder}/{name}"
 
-    def place(self, name):
+    def place(self, name: str) -> str:
         return os.path.join(self.folder, name)
 
-    def put(self, name, text):
+    def put(self, name: str, text: str) -> None:
         with open(self.place(name), "w", encoding="utf-8", errors="surrogateescape") as out:
             out.write(text)
 
-    def put_script(self, name, text):
+    def put_script(self, name: str, text: str) -> None:
         """Puts a script into the folder, as few lines: yosys looks through the whole design behind each."""
         commands = list(filter(None, text.split("\n")))
         self.put(name, "".join("; ".join(commands[i : i + LONGEST]) + "\n" for i in range(0, len(commands), LONGEST)))
 
-    def text(self, name):
+    def text(self, name: str) -> str:
         with open(self.place(name), encoding="utf-8", errors="surrogateescape") as file:
             return file.read()
 
-    def modules(self, name):
+    def modules(self, name: str) -> dict[str, Json]:
         """What each module has, in a file in JSON that yosys wrote."""
-        return json.loads(self.text(name))["modules"]
+        modules: dict[str, Json] = json.loads(self.text(name))["modules"]
+        return modules
 
-    def told(self, said):
+    def told(self, said: str) -> str:
         """What yosys says, with the user's paths for its names."""
         for name in sorted(self.meanings, key=len, reverse=True):
             said = said.replace(name, plain(os.fsencode(self.meanings[name])).replace("\n", "\\x0a"))
         return said
 
-    def fill(self, texts):
+    def fill(self, texts: Mapping[str, bytes]) -> None:
         """Gives copies of files other texts, by the files' paths."""
         for path, text in texts.items():
             with open(self.place(self.copies[path]), "wb") as out:
                 out.write(text)
 
-    def warned(self, said):
+    def warned(self, said: str) -> None:
         """Keeps the warnings in what yosys said, each as a line."""
         for place, text in WARNING.findall(said):
             line = f"{self.told(place) if place else self.path}: yosys warns: {' '.join(self.told(text).split())}"
             if line not in self.warnings and not any(re.match(hushed, text) for hushed in HUSHED):
                 self.warnings.append(line)
 
-    def read(self, script, folders, texts):
+    def read(self, script: Script, folders: Sequence[str], texts: Texts) -> Run:
         """Begins a run of a script in the folder where we are, from which relative paths in the design are, and gives it once it is ready.
         The script is a function of where our folder is, the file that it writes to once it is ready, the paths of the files' copies, and
         those of the folders beside them and of these. The copies' texts are a function of the folders' descriptors."""
@@ -117,7 +132,7 @@ class Yosys:
                 run.printed()
         return run
 
-    def begin_reading(self, script, folders, texts, told):
+    def begin_reading(self, script: Script, folders: Sequence[str], texts: Texts, told: int) -> Run:
         """Begins that run, which has this descriptor to tell by that it is ready."""
         with contextlib.ExitStack() as opened:
             descriptors = [os.open(path, os.O_PATH | os.O_DIRECTORY) for path in [self.folder, *self.beside, *folders]]
@@ -130,15 +145,16 @@ class Yosys:
             self.descriptors, self.warnings = descriptors, []
             self.fill(texts(descriptors))
             self.put_script("read.ys", script(made, is_ready, copies, paths))
-            return Run(self, ["yosys", f"{made}/read.ys"], pass_fds=[told, *descriptors])
+            run = Run(self, ["yosys", f"{made}/read.ys"], pass_fds=[told, *descriptors])
+        return run
 
-    def begin(self, script, **words):
+    def begin(self, script: str, **words: str) -> Run:
         """Begins a run of a script in its own folder."""
         self.put_script("script.ys", script.format(**words))
         return Run(self, ["env", "-C", self.folder, "TMPDIR=.", "yosys", "script.ys"])
 
     @contextlib.contextmanager
-    def alongside(self, script, **words):
+    def alongside(self, script: str, **words: str) -> Iterator[None]:
         """Runs a script in its own folder beside what is done meanwhile; where that fails, the run is ended."""
         run = self.begin(script, **words)
         try:
@@ -148,7 +164,7 @@ class Yosys:
             raise
         run.printed()
 
-    def run(self, script, **words):
+    def run(self, script: str, **words: str) -> str:
         """Runs a script in its own folder, and gives what it prints."""
         return self.begin(script, **words).printed()
 
@@ -156,42 +172,43 @@ class Yosys:
 class Run:
     """A run of yosys, which is ended where the time is over."""
 
-    def __init__(self, yosys, words, **streams):
-        self.yosys, self.out, self.outcome = yosys, tempfile.TemporaryFile(), None
-        self.late, left = Late(f"{yosys.path}: yosys was still at it when the time was over"), yosys.deadline - time.monotonic()
+    def __init__(self, yosys: Yosys, words: Words, **streams: Any) -> None:
+        self.yosys, self.out = yosys, tempfile.TemporaryFile()
+        self.outcome: tuple[int, bytes, bool] | None = None
+        self.late, left = TranslationTimeout(f"{yosys.path}: yosys was still at it when the time was over"), yosys.deadline - time.monotonic()
         if left <= 0:
             raise self.late
-        self.group = yosys.programs.start(words, stdout=self.out, stderr=subprocess.STDOUT, **streams)
+        self.group = yosys.task.start(words, stdout=self.out, stderr=subprocess.STDOUT, **streams)
         self.timer = threading.Timer(min(left, threading.TIMEOUT_MAX), self.group.signal, [signal.SIGKILL])
         self.timer.daemon = True
         self.timer.start()
 
-    def end(self):
+    def end(self) -> None:
         """Ends it, whatever it is at."""
         self.group.signal(signal.SIGKILL)
         self.wait()
 
-    def wait(self):
+    def wait(self) -> tuple[int, bytes, bool]:
         """Its status, once it ends, what it printed, and whether the time is over then."""
         if self.outcome is None:
-            status = self.yosys.programs.finish(self.group)
+            status = self.yosys.task.finish(self.group)
             self.timer.cancel()
             with self.out:
                 self.out.seek(0)
                 self.outcome = status, self.out.read(), time.monotonic() >= self.yosys.deadline
         return self.outcome
 
-    def data(self):
+    def data(self) -> bytes:
         """The bytes that it has printed so far."""
         if self.outcome is not None:
             return self.outcome[1]
         return os.pread(self.out.fileno(), os.fstat(self.out.fileno()).st_size, 0)
 
-    def said(self):
+    def said(self) -> str:
         """What it has said so far, without the texts that it read."""
         return plain(EXPANDED.sub(b"", self.data()))
 
-    def printed(self):
+    def printed(self) -> str:
         """What it prints, once it ends, which has to be with status 0."""
         status, _, is_over = self.wait()
         said = self.said()

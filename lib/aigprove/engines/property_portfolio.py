@@ -1,96 +1,122 @@
-"""A race about one property among several, or about all of a file at once: it prints nothing, and what is shown goes to answers."""
-import argparse
-import copy
+"""A portfolio about one property among several, or about all of a file at once.
+
+It prints nothing, and what is shown goes to answers."""
+from __future__ import annotations
+
+import dataclasses
 import time
+from collections.abc import Iterable, Sequence
+from typing import TYPE_CHECKING
 
-from aigprove.engines.portfolio import SAFE, UNSAFE, Race
-from aigprove.output.evidence import ABOVE, Evidence
-from aigprove.processes.programs import MARK, Part
+from aigprove.circuits.aiger import Circuit
+from aigprove.circuits.witness import Witness
+from aigprove.engines.answers import SAFE, UNSAFE, Answer, Induction, RunFound, StepShown
+from aigprove.engines.board import Board
+from aigprove.engines.clock import Clock
+from aigprove.engines.portfolio import Portfolio, engines_of
+from aigprove.engines.problem import CircuitProblem, Problem
+from aigprove.options.options import Options
+from aigprove.output.evidence import Evidence
+from aigprove.output.report import PropertyAnswer
+from aigprove.processes.scheduler import Scope
+from aigprove.questions.checker import Claim
+from aigprove.questions.target import Target
 
-# What a race about one of several properties has none of.
-NONE = dict.fromkeys(["keep", "witness", "vcd", "aiger", "certificate", "write_certificate", "run", "verbose"])
+if TYPE_CHECKING:
+    from aigprove.engines.separate import SeparateProperties
 
 
-class Quest(Race):
-    """A race whose threads have names with a mark. Its answers are that of the property that it is about, or those of all properties."""
+class Recorder:
+    """A sink that keeps answers of one property, or of all, and what shows them."""
 
-    def __init__(self, each, mark, source, answers, circuit=None, names=()):
-        self.each, self.mark, self.answers = each, MARK + mark, answers
-        if circuit:
-            self.circuit = circuit
-        words = argparse.Namespace(**{**vars(each.words), **NONE, "quiet": True, "engines": list(names)})
-        programs, judge = Part(each.programs, mark), copy.copy(each.judge)
-        judge.programs = programs
-        super().__init__(words, programs, judge, each.above, source)
-        self.steps = min(answer.steps for answer in answers)
+    def __init__(self, owner: SeparateProperties, problem: Problem, board: Board,
+                 answers: Sequence[PropertyAnswer]) -> None:
+        self.owner, self.problem, self.board, self.answers = owner, problem, board, answers
+        self.evidence: Evidence | None = None
 
-    def read_text(self):
-        """The text form of the file, where its circuit isn't known."""
-        return None if "circuit" in vars(self) else super().read_text()
+    def take(self, engine: str, answer: Answer) -> int | None:
+        if isinstance(answer, StepShown):
+            self.take_step(answer)
+            return None
+        trace: Witness | None = None
+        if isinstance(answer, RunFound):
+            trace = answer.traces[0]
+            self.keep(self.problem.claimed(trace))
+        else:
+            if isinstance(answer, Induction):
+                self.keep(answer.window)
+            self.keep(answer.claim)
+        self.owner.decide(self, engine, trace)
+        return UNSAFE if trace else SAFE
 
-    def engines(self):
-        return {name + self.mark: make for name, make in super().engines().items()}
+    def take_step(self, answer: StepShown) -> None:
+        """Takes that steps are shown, unless another engine showed that."""
+        if answer.k >= self.board.steps:
+            self.keep(answer.claim)
+            self.board.steps = answer.k + 1
+        for own in self.answers:
+            own.steps = max(own.steps, self.board.steps)
 
-    def ask(self, seconds):
-        """Runs its engines for so many seconds at most: whether they ended before."""
-        self.deadline = min(self.each.deadline, time.monotonic() + seconds)
-        self.raced(self.engines())
-        is_over = not self.left
-        self.end_all()
-        return is_over
+    def fail(self, engine: str, error: Exception | str) -> None:
+        self.owner.fail(engine, error)
 
-    def end_all(self):
-        """Ends what it runs, and so the race."""
-        self.deadline = 0
-        self.programs.stop()
-        self.events.put(lambda: None)
+    def show_progress(self) -> None:
+        """Shows nothing: the table does."""
 
-    def close(self):
+    def keep(self, claim: Claim) -> None:
+        """Keeps what shows a claim, in a folder that is made once there is something to keep."""
+        folder = self.owner.folder
+        if folder is None:
+            return
+        if self.evidence is None:
+            name = folder.new(self.problem.source.stem)
+            self.evidence = Evidence(folder.path(name), self.problem.options.limit)
+            self.problem.source.keep(self.evidence)
+            for answer in self.answers:
+                answer.parts.append(name)
+        self.evidence.shows(claim)
+
+    def close(self) -> None:
         """Ends the script of what it kept."""
         if self.evidence:
             self.evidence.end()
             self.evidence = None
 
-    def answered(self, name, answer):
-        status = answer()
-        if status is not None:
-            self.each.tell(self, name.partition(MARK)[0], status == SAFE)
-        return status
 
-    def fail(self, name, why):
-        self.faults.append(name)
-        self.each.fault(name.partition(MARK)[0], why)
+class PropertyPortfolio:
+    """Engines that are asked about the property of some answers, or about all properties."""
 
-    # What is printed by others is kept here.
+    def __init__(self, owner: SeparateProperties, source: Target,
+                 answers: Sequence[PropertyAnswer], circuit: Circuit | None = None,
+                 engines: Iterable[str] = ()) -> None:
+        self.owner = owner
+        options = quiet(owner.options, engines)
+        self.scope: Scope = Scope(owner.scheduler)
+        checker = owner.checker.of(self.scope.task("main"))
+        if circuit is None:
+            self.problem = Problem(options, source, checker, owner.above)
+            self.circuit = self.problem.circuit
+        else:
+            self.problem = CircuitProblem(options, source, checker, owner.above, circuit)
+        self.board = Board(Clock(owner.deadline), min(answer.steps for answer in answers))
+        self.recorder = Recorder(owner, self.problem, self.board, answers)
+        self.portfolio = Portfolio(self.problem, self.scope, self.board, self.recorder)
 
-    def show_progress(self, text=None):
-        pass
+    def ask(self, seconds: float) -> bool:
+        """Runs its engines for so many seconds at most, and returns whether they ended before."""
+        self.board.clock.deadline = min(self.owner.deadline, time.monotonic() + seconds)
+        self.portfolio.run(engines_of(self.problem))
+        is_over = not self.portfolio.left
+        self.end_all()
+        return is_over
 
-    def print_line(self, line, is_answer=False):
-        self.last = line
+    def end_all(self) -> None:
+        """Ends what it runs."""
+        self.board.clock.deadline = 0
+        self.scope.stop()
+        self.board.wake()
 
-    def print_claim(self, claim, prefix="", is_answer=False):
-        if self.each.kept:
-            self.kept().shows(claim)
 
-    def print_step(self, k, claim, prefix):
-        status = super().print_step(k, claim, prefix)
-        for answer in self.answers:
-            answer.steps = max(answer.steps, self.steps)
-        return status
-
-    def print_run(self, tolds):
-        """Takes a run to the property, or to one of all."""
-        self.told = tolds[0]
-        self.print_claim(self.claimed(self.told))
-        return UNSAFE
-
-    def kept(self):
-        """The evidence, whose folder is made once there is something to be kept."""
-        if not self.evidence:
-            name = self.each.kept.new(self.source.stem)
-            self.evidence = Evidence(self.each.kept.path(name), self.words.limit)
-            self.source.keep(self.evidence, ABOVE)
-            for answer in self.answers:
-                answer.parts.append(name)
-        return self.evidence
+def quiet(options: Options, engines: Iterable[str]) -> Options:
+    """Returns the options of a portfolio that prints and writes nothing, and has these engines."""
+    return dataclasses.replace(options, engines=tuple(engines), certificate=None, run=None)

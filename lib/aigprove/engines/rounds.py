@@ -1,76 +1,99 @@
-"""The other road to `no fair run` (k-liveness): files that count rounds. In a round each literal of a justice property and of fairness is
-true; if N of them can't end, for some N, no run shows the property."""
+"""The other way to `no fair run` (k-liveness): files that count rounds.
+
+In a round each literal of a justice property and of fairness is true; if N of them can't end, for
+some N, no run shows the property."""
+from __future__ import annotations
+
 import functools
+from collections.abc import Mapping, Sequence
 
 from aigprove.circuits import witness
-from aigprove.circuits.normalised import Plain
-from aigprove.engines.engines import Abc, Missing
+from aigprove.circuits.aiger import Circuit
+from aigprove.circuits.witness import Witness
+from aigprove.engines.abc import Abc
+from aigprove.engines.answers import CountedRounds
+from aigprove.engines.job import Job, Missing
+from aigprove.engines.problem import Problem
+from aigprove.processes.sealed import Sealed
+from aigprove.questions.checker import Checker, Claim
+from aigprove.questions.target import Target
 
 # How many rounds are counted, one after the other.
 COUNTS = [1, 2, 4, 8, 16]
 
 
-class Counted:
-    """The file in which so many rounds end, and what aigcheck shows by it of the file that was given."""
+class CountedFile(Target):
+    """The file in which so many rounds end, and what aigcheck shows by it of the given file."""
 
     can_be_simulated = False
 
-    def __init__(self, justice, count):
-        self.justice, self.count = justice, count
+    def __init__(self, justice: Target, checker: Checker, count: int) -> None:
+        self.justice, self.checker, self.count = justice, checker, count
+        self.path, self.name = justice.path, f"rounds-{count}.aag"
 
     @functools.cached_property
-    def asked(self):
-        return self.justice.rounds(self.count)
+    def made(self) -> Sealed:
+        """The file that aigedit makes."""
+        return self.justice.rounds(self.checker, self.count)
 
-    def certified(self, certificate, proofs):
-        """That no run shows the property, by a certificate of this file and proofs about both."""
+    @property
+    def asked(self) -> Sealed:
+        return self.made
+
+    def circuit(self) -> Circuit:
+        return self.checker.circuit(self.asked, "FILE")
+
+    def certified(self, certificate: Sealed, proofs: Mapping[str, Sealed], *form: str) -> Claim:
+        """Returns that no run shows the property, by a certificate and proofs about both."""
         return self.justice.certified(certificate, proofs, "--rounds", str(self.count))
 
 
-class Counting:
-    """What pdr of ABC is given in the place of a race. A run says that so many rounds can end, and nothing of the property."""
-
-    bound = None
-
-    def __init__(self, race, count):
-        self.race, self.source, self.is_reached = race, Counted(race.source, count), False
-        self.words, self.programs, self.judge, self.above = race.words, race.programs, race.judge, race.above
-        self.needs_solver, self.answering = race.needs_solver, race.answering
+class CountingProblem(Problem):
+    """The circuit of such a file, which is simulated alone."""
 
     @functools.cached_property
-    def circuit(self):
-        return self.judge.circuit(self.source.asked, "FILE")
+    def circuit(self) -> Circuit:
+        return self.source.circuit()
 
-    @functools.cached_property
-    def plain(self):
-        return Plain(self.circuit)
-
-    def progress(self, what):
-        self.race.progress("rounds", self.source.count)
-
-    def reached(self, start, steps):
+    def reached(self, checker: Checker, start: str, steps: Sequence[str]) -> Witness | None:
         return witness.reached(self.circuit, start, steps)
 
-    def hand_in_run(self, data):
+
+class Counting(Job):
+    """A job of pdr's about such a file.
+
+    A run says that so many rounds can end, and nothing of the property."""
+
+    def __init__(self, job: Job, count: int) -> None:
+        source = CountedFile(job.source, job.checker, count)
+        problem = CountingProblem(job.options, source, job.checker, job.above)
+        super().__init__(problem, job.task, job.board)
+        self.count, self.is_reached, self.bound = count, False, None
+
+    def progress(self, what: str, count: int | None = None) -> None:
+        super().progress("rounds", self.count)
+
+    def hand_in_run(self, data: bytes) -> None:
         self.is_reached = True
 
-    def certificate(self, claim, machine):
-        self.race.hand_in(lambda: self.race.print_counted(claim))
+    def certificate(self, claim: Claim, machine: Sealed) -> None:
+        self.board.hand_in(self.task, CountedRounds(claim))
 
 
 class Rounds:
-    """Asks pdr of ABC whether 1, 2, 4 and so on rounds can end, up to the first number that can't."""
+    """Asks pdr of ABC whether 1, 2, 4 and so on rounds can end, up to the first that can't."""
 
-    def __init__(self, race):
-        if not race.source.counts:
+    def __init__(self, job: Job) -> None:
+        if not job.source.counts:
             raise Missing("it is for justice properties")
-        race.needs_solver()
-        Abc("pdr", race)
-        self.race = race
+        job.solver()
+        Abc("pdr", job)
+        self.job = job
 
-    def run(self):
+    def run(self) -> None:
+        """Asks about one number of rounds after the other."""
         for count in COUNTS:
-            counting = Counting(self.race, count)
+            counting = Counting(self.job, count)
             Abc("pdr", counting).run()
             if not counting.is_reached:
                 return

@@ -1,117 +1,137 @@
-"""The properties of a file, each of which is asked about alone, as long as it takes and there is time.
+"""The properties of a file, each of which is asked about alone, while there is time.
 
-So many at once as there are programs that may run are asked about, for two seconds each, then for eight, and so on."""
+At most as many as there are programs that may run are asked about at once: for two seconds each,
+then for eight, and so on."""
+from __future__ import annotations
+
 import concurrent.futures
-import functools
 import math
-import sys
 import threading
 import time
+from collections.abc import Iterable, Sequence
 
-from aigprove.engines.property_portfolio import Quest
+from aigprove.circuits.aiger import Circuit
+from aigprove.circuits.witness import Witness
+from aigprove.engines.property_portfolio import PropertyPortfolio, Recorder
+from aigprove.options.options import Options
 from aigprove.output.evidence import ABOVE
-from aigprove.processes.programs import MARK, say, tell
-from aigprove.questions.justice import Justice
+from aigprove.output.folders import EvidenceFolder
+from aigprove.output.messages import is_fault, reason, report, say, show_progress
+from aigprove.output.report import PropertyAnswer
+from aigprove.processes.scheduler import Scheduler
+from aigprove.questions.bad_states import BadStates
+from aigprove.questions.checker import Checker
+from aigprove.questions.justice import Justice, Justices
+from aigprove.questions.properties import Property
 
 # Seconds of the first time that each is asked about, and by how much that grows.
 ALONE, MORE = 2, 4
 
 
-def show_progress(text=""):
-    """Has a line of what is being done stand in the place of the last, or none, on a terminal."""
-    if sys.stderr.isatty():
-        tell(f"\r\x1b[K{text}", end="")
+class SeparateProperties:
+    """The properties of one file, and the engines that are asked about them.
 
+    What is kept goes into the folder, if there is one."""
 
-class Alone:
-    """The properties of one file, and the engines that are asked about them; `kept` is what is kept, if anything is."""
+    def __init__(self, options: Options, checker: Checker, above: str,
+                 source: BadStates | Justices, folder: EvidenceFolder | None) -> None:
+        self.options, self.checker, self.above = options, checker, above
+        self.source, self.folder = source, folder
+        self.scheduler: Scheduler = checker.task.scheduler
+        self.begun, self.deadline, self.lock = time.monotonic(), options.deadline, threading.RLock()
+        self.answers: list[PropertyAnswer] = source.answers()
+        # The errors that were printed; what is asked about properties now, by their numbers; and
+        # those of which engines have nothing more to say.
+        self.said: set[tuple[str, str]] = set()
+        self.asked: dict[int, PropertyPortfolio] = {}
+        self.over: set[int] = set()
+        self.sources: Sequence[Property | Justice] = [
+            self.one(answer.number) for answer in self.answers]
 
-    # Of what class that is which is asked about one property.
-    one = None
+    def one(self, number: int) -> Property | Justice:
+        """Returns a property by its number."""
+        if isinstance(self.source, Justices):
+            return Justice(self.source, number, ABOVE)
+        return Property(self.source, number, ABOVE)
 
-    def __init__(self, words, programs, judge, above, source, kept):
-        self.words, self.programs, self.judge, self.above, self.source, self.kept = words, programs, judge, above, source, kept
-        self.begun, self.deadline, self.lock, self.said = time.monotonic(), words.deadline, threading.RLock(), set()
-        self.answers = source.answers()
-        # What is asked about properties now, by their numbers, and those of which engines have nothing more to say.
-        self.asked, self.over = {}, set()
-        self.sources = [self.one(source, answer.number) for answer in self.answers]
-
-    def open(self):
-        """The numbers of the properties that have no answer."""
+    def open(self) -> list[int]:
+        """Returns the numbers of the properties that have no answer."""
         return [answer.number for answer in self.answers if not answer.is_answered]
 
-    def fault(self, engine, why):
-        """Says once why an engine gave no answer."""
+    def fail(self, engine: str, error: Exception | str) -> None:
+        """Prints once why an engine gave no answer."""
+        why = error if isinstance(error, str) else reason(error)
         with self.lock:
             is_new = (engine, why) not in self.said
             self.said.add((engine, why))
         if is_new:
             show_progress()
-            say(f"{engine}: {why}")
+            if isinstance(error, str) or is_fault(error):
+                say(f"{engine}: {why}")
+            else:
+                report(error, self.options.verbose)
 
-    def tell(self, quest, engine, is_safe):
-        """Takes an answer to a question: that none of its properties is reached, or a run to one."""
+    def decide(self, recorder: Recorder, engine: str, trace: Witness | None) -> None:
+        """Takes that none of a question's properties is reached, or a run to one."""
         with self.lock:
             seconds = time.monotonic() - self.begun
-            for answer in quest.answers:
-                if is_safe or len(quest.answers) == 1 or quest.told.bad == answer.number:
-                    answer.take(None if is_safe else quest.told, engine, seconds)
+            for answer in recorder.answers:
+                is_one = len(recorder.answers) == 1
+                if trace is None or is_one or trace.bad == answer.number:
+                    answer.take(trace, engine, seconds)
                 if answer.is_answered and answer.number in self.asked:
                     self.asked[answer.number].end_all()
-        if quest.evidence:
-            quest.evidence.note(engine, seconds)
+        if recorder.evidence:
+            recorder.evidence.note(engine, seconds)
 
-    def quest(self, number, mark="", names=()):
-        """A question about one property."""
-        source = self.sources[number]
-        return Quest(self, source.stem + mark, source, [self.answers[number]], self.circuit(number), names)
+    def portfolio(self, number: int, engines: Iterable[str] = ()) -> PropertyPortfolio:
+        """Returns a portfolio about one property."""
+        answers = [self.answers[number]]
+        return PropertyPortfolio(self, self.sources[number], answers, self.circuit(number), engines)
 
-    def circuit(self, number):
-        """The circuit with one property, where it is known."""
+    def circuit(self, number: int) -> Circuit | None:
+        """Returns the circuit with one property, if it is known."""
         return None
 
-    def alone(self, number, seconds):
-        """Asks about a property for so many seconds, where there is time."""
+    def ask_alone(self, number: int, seconds: float) -> None:
+        """Asks about a property for so many seconds, if there is time."""
         if time.monotonic() >= self.deadline:
             return
-        threading.current_thread().name = MARK + self.sources[number].stem
-        answer, quest = self.answers[number], self.quest(number, names=self.words.engines)
+        answer = self.answers[number]
+        portfolio = self.portfolio(number, self.options.engines)
         with self.lock:
-            self.asked[number] = quest
+            self.asked[number] = portfolio
         try:
-            if not answer.is_answered and quest.ask(seconds) and not answer.is_answered:
+            if not answer.is_answered and portfolio.ask(seconds) and not answer.is_answered:
                 self.over.add(number)
         finally:
             with self.lock:
                 del self.asked[number]
-            quest.close()
+            portfolio.recorder.close()
 
-    def round(self, numbers, seconds):
-        """Asks about properties, so many at once as programs may run."""
-        with concurrent.futures.ThreadPoolExecutor(self.words.jobs) as pool:
-            list(pool.map(self.alone, numbers, [seconds] * len(numbers)))
+    def round(self, numbers: Sequence[int], seconds: float) -> None:
+        """Asks about properties, at most as many at once as programs may run."""
+        with concurrent.futures.ThreadPoolExecutor(self.options.jobs) as pool:
+            list(pool.map(self.ask_alone, numbers, [seconds] * len(numbers)))
 
-    def end_all(self):
+    def end_all(self) -> None:
         """Ends all that is asked."""
         with self.lock:
-            for quest in self.asked.values():
-                quest.end_all()
+            for portfolio in self.asked.values():
+                portfolio.end_all()
 
-    def stop(self):
+    def stop(self) -> None:
         """Ends all that is asked, for good."""
         self.deadline = 0
         self.end_all()
 
-    def run(self):
+    def run(self) -> None:
         """Asks about all properties that have no answer yet."""
-        seconds = ALONE
-        while (numbers := [it for it in self.open() if it not in self.over]) and time.monotonic() < self.deadline:
-            self.round(numbers, math.inf if len(numbers) <= self.words.jobs else seconds)
+        seconds: float = ALONE
+        while (numbers := self.left()) and time.monotonic() < self.deadline:
+            self.round(numbers, math.inf if len(numbers) <= self.options.jobs else seconds)
             seconds *= MORE
 
-
-class Fair(Alone):
-    """Justice properties, of each of which a file is made."""
-
-    one = staticmethod(functools.partial(Justice, folder=ABOVE))
+    def left(self) -> list[int]:
+        """Returns the numbers of the properties of which engines may have more to say."""
+        return [number for number in self.open() if number not in self.over]

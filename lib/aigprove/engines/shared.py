@@ -1,169 +1,208 @@
-"""Each property of a file by itself: what engines show of all at once, and then of each alone.
+"""Each property of a file: what engines show of all at once, and then of each alone.
 
-ABC's pdr is asked about all properties that are open, each for a second at most, then for four, and so on; beside its first run the other
-engines are asked about the whole file. What is left then is asked about alone."""
+ABC's pdr is asked about all properties that are open, each for a second at most, then for four, and
+so on; beside its first run the other engines are asked about the whole file. What is left then is
+asked about alone."""
+from __future__ import annotations
+
 import concurrent.futures
 import math
 import threading
 import time
+from collections.abc import Callable, Iterable, Sequence
+from typing import TypeVar
 
+from aigprove.circuits.aiger import Circuit, Fault
 from aigprove.circuits.witness import Witness
-from aigprove.engines.engines import Certificate, Missing
-from aigprove.engines.multi_property import BMC, PDR, Cones, Shared
+from aigprove.engines.answers import RunFound
+from aigprove.engines.certificate import Certificate
+from aigprove.engines.job import Job, Missing
+from aigprove.engines.multi_property import BMC, PDR, Cones, MultiProperty
 from aigprove.engines.portfolio import TICK
-from aigprove.engines.property_portfolio import Quest
-from aigprove.engines.separate import MORE, Alone
+from aigprove.engines.property_portfolio import PropertyPortfolio
+from aigprove.engines.separate import MORE, SeparateProperties
+from aigprove.options.options import Options
 from aigprove.output.evidence import ABOVE
-from aigprove.processes.programs import MARK, Fault, Part, Stopped, reason
-from aigprove.questions.properties import Property, Within
+from aigprove.output.folders import EvidenceFolder
+from aigprove.processes.scheduler import Scope, Stopped
+from aigprove.processes.sealed import Sealed
+from aigprove.questions.bad_states import BadStates
+from aigprove.questions.checker import Checker
+from aigprove.questions.properties import FileAbove
 
-# Seconds of the first run of pdr for each property, of the time that all are asked about at once, and of the search for shorter runs.
+# Seconds of the first run of pdr for each property, of the time that all are asked about at once,
+# and of the search for shorter runs.
 PASS, WHOLE, SHORTER = 1, 2, 2
 # Engines whose runs are the shortest.
 SHORTEST = {"bmc3", "bounded", "steps"}
 # Engines that aren't asked about the whole file beside pdr.
 OF_ABC = {"pdr", "bmc3"}
+T = TypeVar("T")
 
 
-class Each(Alone):
+class SharedProperties(SeparateProperties):
     """Properties of one circuit, which are asked about at once, before each is alone."""
 
-    one = Property
+    def __init__(self, options: Options, checker: Checker, above: str, source: BadStates,
+                 folder: EvidenceFolder | None) -> None:
+        super().__init__(options, checker, above, source, folder)
+        self.whole = self.of_all([name for name in options.engines if name not in OF_ABC])
+        self.cones = Cones(self.whole.problem.circuit)
+        # Whether ABC's first run is over, and whether what it left is being checked.
+        self.first, self.is_checking = threading.Event(), False
+        self.scope = Scope(self.scheduler)
+        self.pdr = self.scope.task("pdr")
+        # The numbers of the properties of which shorter runs were looked for, which is done by one
+        # thread at a time.
+        self.looked: set[int] = set()
+        self.shortening = threading.Lock()
 
-    def __init__(self, words, programs, judge, above, source, kept):
-        super().__init__(words, programs, judge, above, source, kept)
-        self.stem = source.stems[0]
-        self.whole = self.whole_quest(self.stem, [name for name in words.engines if name not in OF_ABC])
-        self.cones = Cones(self.whole.circuit)
-        self.first, self.is_checking, self.part = threading.Event(), False, Part(programs, f"{self.stem}-pdr")
-        # The numbers of the properties of which shorter runs were looked for, which is done by one thread at a time.
-        self.looked, self.shortening = set(), threading.Lock()
-
-    def circuit(self, number):
+    def circuit(self, number: int) -> Circuit:
         return self.cones.of([number])
 
-    def whole_quest(self, mark, names=()):
-        """A question about all properties."""
-        return Quest(self, mark, Within(self.source, ABOVE), self.answers, None, names)
+    def of_all(self, engines: Iterable[str] = ()) -> PropertyPortfolio:
+        """Returns a portfolio about all properties."""
+        assert isinstance(self.source, BadStates)
+        source = FileAbove(self.source, ABOVE)
+        return PropertyPortfolio(self, source, self.answers, None, engines)
 
-    def share(self):
-        """Asks ABC about all open properties, again and again with more time, as long as it gets further."""
+    def abc(self) -> MultiProperty:
+        """Returns ABC, which is asked about several properties."""
+        return MultiProperty(self.options, self.pdr, self.above)
+
+    def share(self) -> None:
+        """Asks ABC about all open properties, whatever it leaves."""
         try:
-            shared, seconds = Shared(self.words, self.part, self.above), PASS
-            while (numbers := self.open()) and time.monotonic() < self.deadline:
-                begun = time.monotonic()
-                runs, certificate = shared.ask(self.cones.of(numbers), PDR.format(each=1000 * seconds))
-                self.is_checking = True
-                self.in_turn(self.take_run, [(numbers[place], run, "pdr") for place, run in runs.items()])
-                self.shorten(shared)
-                if certificate:
-                    self.take_certificate(certificate)
-                self.first.set()
-                if len(self.open()) == len(numbers) and time.monotonic() - begun < seconds / 2:
-                    return
-                seconds *= MORE
-        except Stopped:
-            pass
+            self.ask_all(self.abc())
         except Missing as why:
-            self.fault("pdr", f"passed over: {why}")
-        # Whatever ABC leaves, the other engines go on.
-        except Exception as why:
-            if not self.part.is_stopped:
-                self.fault("pdr", reason(why))
+            self.fail("pdr", f"passed over: {why}")
+        except Exception as error:
+            self.fail_abc("pdr", error)
         finally:
             self.is_checking = False
             self.first.set()
 
-    def shorten(self, shared):
-        """Has shorter runs to properties checked, if there are any, where the known run may be longer, and that wasn't looked at."""
+    def fail_abc(self, engine: str, error: Exception) -> None:
+        """Prints why ABC gave no answer, unless it was ended. The other engines go on."""
+        if not isinstance(error, Stopped) and not self.scope.is_stopped():
+            self.fail(engine, error)
+
+    def ask_all(self, abc: MultiProperty) -> None:
+        """Asks about all open properties, with more time while that gets further."""
+        seconds = PASS
+        while (numbers := self.open()) and time.monotonic() < self.deadline:
+            begun = time.monotonic()
+            command = PDR.format(each=1000 * seconds)
+            runs, certificate = abc.ask(self.cones.of(numbers), command)
+            self.is_checking = True
+            self.in_turn(self.take_run, [(numbers[place], run, "pdr")
+                                         for place, run in runs.items()])
+            self.shorten(abc)
+            if certificate:
+                self.take_certificate(certificate)
+            self.first.set()
+            is_idle = len(self.open()) == len(numbers)
+            if is_idle and time.monotonic() - begun < seconds / 2:
+                return
+            seconds *= MORE
+
+    def shorten(self, abc: MultiProperty) -> None:
+        """Has shorter runs checked to properties whose known run may be longer, each once."""
         with self.shortening:
-            inexact = [it for it in self.answers if it.told and it.engine not in SHORTEST and it.number not in self.looked]
-            lengths = {it.number: len(it.told.steps) for it in inexact if len(it.told.steps) > 1}
+            inexact = [it for it in self.answers if it.trace and it.engine not in SHORTEST
+                       and it.number not in self.looked]
+            lengths = {it.number: len(it.trace.steps) for it in inexact if it.trace}
+            lengths = {number: length for number, length in lengths.items() if length > 1}
             self.looked.update(lengths)
             left = self.deadline - time.monotonic()
-            if lengths and left > 0 and "bmc3" in self.words.engines:
-                seconds = left if self.words.shortest else min(left, SHORTER)
+            if lengths and left > 0 and "bmc3" in self.options.engines:
+                seconds = left if self.options.shortest else min(left, SHORTER)
                 numbers, limit = list(lengths), 0 if seconds == math.inf else math.ceil(seconds)
                 command = BMC.format(steps=max(lengths.values()) - 1, seconds=limit)
-                found = {numbers[place]: run for place, run in shared.ask(self.cones.of(numbers), command)[0].items()}
-                self.in_turn(self.take_run, [(it, run, "bmc3") for it, run in found.items() if len(run[1]) < lengths[it]])
+                runs, _ = abc.ask(self.cones.of(numbers), command)
+                found = {numbers[place]: run for place, run in runs.items()}
+                self.in_turn(self.take_run, [(number, run, "bmc3") for number, run in found.items()
+                                             if len(run[1]) < lengths[number]])
 
-    def settle(self):
-        """Has shorter runs checked where engines that were asked about one property left longer ones."""
+    def settle(self) -> None:
+        """Has shorter runs checked if engines that were asked about one left longer ones."""
         try:
-            self.shorten(Shared(self.words, self.part, self.above))
-        except (Stopped, Missing):
+            self.shorten(self.abc())
+        except Missing:
             pass
-        except Exception as why:
-            if not self.part.is_stopped:
-                self.fault("bmc3", reason(why))
+        except Exception as error:
+            self.fail_abc("bmc3", error)
 
-    def round(self, numbers, seconds):
+    def round(self, numbers: Sequence[int], seconds: float) -> None:
         super().round(numbers, seconds)
         self.settle()
 
-    def take_run(self, item):
+    def take_run(self, item: tuple[int, tuple[str, list[str]], str]) -> None:
         """Has a run that a command of ABC found to a property checked."""
         number, (start, steps), name = item
-        quest = self.shared_quest(self.quest(number, f"-{name}"))
-        told = Witness(0, start, steps)
-        if not steps or not quest.judge.holds(quest.claimed(told)):
+        portfolio = self.portfolio(number)
+        trace, checker = Witness(0, start, steps), self.checker.of(self.pdr)
+        if not steps or not checker.holds(portfolio.problem.claimed(trace)):
             raise Fault("its counterexample reaches no bad state")
-        quest.answered(name, lambda: quest.print_run([told]))
-        quest.close()
+        portfolio.recorder.take(name, RunFound([trace]))
+        portfolio.recorder.close()
 
-    def take_certificate(self, certificate):
-        """Has a certificate checked for all properties at once, where all are open, and else for each that is."""
+    def take_certificate(self, certificate: Sealed) -> None:
+        """Has a certificate checked for all properties at once, if all are open.
+
+        Otherwise it is checked for each that is."""
         numbers = self.open()
-        if len(numbers) < len(self.answers) or not self.is_certified(self.whole_quest(f"{self.stem}-certificate"), certificate):
-            self.in_turn(lambda number: self.is_certified(self.quest(number, "-certificate"), certificate), numbers)
+        is_whole = len(numbers) == len(self.answers)
+        if not is_whole or not self.is_certified(self.of_all(), certificate):
+            self.in_turn(lambda number: self.is_certified(self.portfolio(number), certificate),
+                         numbers)
 
-    def is_certified(self, quest, certificate):
-        """Whether a certificate shows what is asked."""
+    def is_certified(self, portfolio: PropertyPortfolio, certificate: Sealed) -> bool:
+        """Returns whether a certificate shows what is asked."""
+        job = Job(portfolio.problem, self.pdr, portfolio.board)
         try:
-            Certificate(self.shared_quest(quest), certificate).run()
+            Certificate(job, job.solver(), certificate).run()
         except Fault:
             return False
-        quest.take(0)
-        quest.close()
+        portfolio.portfolio.take(0)
+        portfolio.recorder.close()
         return True
 
-    def shared_quest(self, quest):
-        """A question whose programs are those that are shared."""
-        quest.programs = quest.judge.programs = self.part
-        return quest
-
-    def in_turn(self, call, items):
+    def in_turn(self, call: Callable[[T], object], items: Sequence[T]) -> None:
         """Makes a call for each of some items, several at once."""
-        with concurrent.futures.ThreadPoolExecutor(self.words.jobs, f"pdr{self.part.mark}") as pool:
+        with concurrent.futures.ThreadPoolExecutor(self.options.jobs) as pool:
             list(pool.map(call, items))
 
-    def together(self):
+    def together(self) -> None:
         """Asks the others about the whole file, as long as no property is reached."""
         self.whole.ask(WHOLE)
-        self.whole.close()
+        self.whole.recorder.close()
         if not self.open():
             self.first.set()
 
-    def end_all(self):
+    def end_all(self) -> None:
         self.whole.end_all()
         super().end_all()
-        self.part.stop()
+        self.scope.stop()
 
-    def run(self):
-        calls = [(self.share, f"pdr{self.part.mark}")] * ("pdr" in self.words.engines)
+    def run(self) -> None:
+        calls = [self.share] * ("pdr" in self.options.engines)
         is_new = not any(answer.is_answered or answer.steps for answer in self.answers)
-        calls += [(self.together, MARK + self.stem)] * (is_new and bool(self.whole.words.engines))
-        threads = [threading.Thread(target=call, name=name, daemon=True) for call, name in calls if self.open()]
+        calls += [self.together] * (is_new and bool(self.whole.problem.options.engines))
+        threads = [threading.Thread(target=call, daemon=True) for call in calls if self.open()]
         for thread in threads:
             thread.start()
-        until = min(time.monotonic() + WHOLE, self.deadline)
-        # What pdr found is checked before more is asked.
-        while threads and not self.first.wait(TICK) and (time.monotonic() < until or self.is_checking) and time.monotonic() < self.deadline:
-            pass
+        if threads:
+            self.wait_for_first(min(time.monotonic() + WHOLE, self.deadline))
         self.whole.end_all()
         super().run()
         self.settle()
         self.end_all()
         for thread in threads:
             thread.join()
+
+    def wait_for_first(self, until: float) -> None:
+        """Waits for ABC's first run; what it found is checked before more is asked."""
+        while not self.first.wait(TICK) and time.monotonic() < self.deadline:
+            if time.monotonic() >= until and not self.is_checking:
+                return

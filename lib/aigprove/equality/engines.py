@@ -1,69 +1,102 @@
-"""An engine for two files, whose miter has a certificate where registers correspond: a program of its own guesses it, so that it doesn't wait
-for what other engines compute. Nothing here is believed."""
+"""Engines for two files, whose miter has a certificate if registers or signals correspond.
+
+A program of its own guesses it, so that it doesn't wait for what other engines compute. Nothing
+here is believed."""
+from __future__ import annotations
+
 import json
 import threading
 
-from aigprove.engines.engines import Asking, Certificate, Missing, abc
-from aigprove.equality.incremental import Turns
+from aigprove.circuits.aiger import Fault
+from aigprove.engines.abc import path_of_abc
+from aigprove.engines.certificate import Certificate
+from aigprove.engines.job import Job, Missing
+from aigprove.equality.incremental import in_turn
 from aigprove.equality.pair import Pair
-from aigprove.processes.programs import Fault, Folder, Module, ending, say
-from aigprove.questions.solver import pass_on
+from aigprove.output.messages import ending, say
+from aigprove.processes.folder import Folder
+from aigprove.processes.groups import PythonModule
+from aigprove.processes.sealed import Sealed
+from aigprove.questions.checker import Query
+from aigprove.questions.solver import Solver
 
 
-class Registers(Asking):
+class MergingSolver(Solver):
+    """A solver of the questions about a certificate, by which equal variables are merged.
+
+    cadical is asked about the literals of the last clause in turn."""
+
+    def ask(self, question: Query, file: Sealed) -> tuple[bool, Sealed]:
+        with Folder(self.above) as folder:
+            with folder.make("clauses.cnf") as out:
+                self.checker.print_question(question, file, out)
+            server = self.task.scheduler.server
+            words = PythonModule(server, "merging", folder.path, *in_turn(self.words))
+            has_solution = self.ended(folder, words) == 10
+            return has_solution, folder.taken("out", "answer" if has_solution else "proof")
+
+
+class CorrespondingRegisters:
     """Has classes of nodes guessed that are always equal, and their certificate checked."""
 
-    # The engine, the module that guesses, what else that is told, and why it has no certificate.
-    name, guesses, further = "registers", "guesses", {}
+    # The engine and the module that guesses, and why it has no certificate.
+    name, guesses = "registers", "guesses"
     unshown = "something differs where all are equal that may be"
 
-    def __init__(self, race):
-        super().__init__(race)
-        if not isinstance(race.source, Pair):
+    def __init__(self, job: Job) -> None:
+        if not isinstance(job.source, Pair):
             raise Missing("it compares two files, as --equal does")
-        self.solver = Turns(race.words.solver, race.words.is_cadical, self.solver.programs, self.judge, race.above)
+        self.job, self.pair = job, job.source
+        self.solver = job.solver()
+        if job.options.solver.is_cadical:
+            self.solver = MergingSolver(self.solver.words, job.checker, job.above)
         self.has_begun = threading.Event()
+        # What else the module is given.
+        self.further: dict[str, object] = {}
 
-    def run(self):
-        self.race.progress(self.name)
+    def run(self) -> None:
+        """Has a certificate guessed, and checked."""
+        self.job.progress(self.name)
         certificate = self.guessed()
         if certificate.size():
             # Of raw clauses those of equal gates are alike.
-            made = Certificate(self.race, certificate, "raw")
-            made.solver = self.solver
-            made.run()
-        elif self.race.words.verbose:
+            Certificate(self.job, self.solver, certificate, "raw").run()
+        elif self.job.options.verbose:
             say(f"{self.name}: {self.unshown}")
 
-    def guessed(self):
-        """The certificate that is guessed, sealed; empty where there is none."""
-        words = self.race.words
-        asked = {"solver": words.solver, "is_cadical": words.is_cadical, "limit": self.judge.limit}
-        asked |= {"alike": self.source.started(), "counts": self.source.latches(), **self.further}
-        with Folder(self.race.above) as folder:
+    def guessed(self) -> Sealed:
+        """Returns the certificate that is guessed, sealed; empty if there is none."""
+        task, solver = self.job.task, self.job.options.solver
+        asked = {"solver": solver.words, "is_cadical": solver.is_cadical,
+                 "limit": self.job.checker.limit, "alike": self.pair.started(),
+                 "counts": self.pair.latches(), **self.further}
+        with Folder(self.job.above) as folder:
             with folder.make("file.aag") as out:
-                out.write(self.race.text.bytes())
-            group = folder.start(self.race.programs, Module(self.guesses, folder.path, json.dumps(asked)))
+                out.write(self.job.problem.text.data())
+            server = task.scheduler.server
+            words = PythonModule(server, self.guesses, folder.path, json.dumps(asked))
+            group = folder.start(task, words)
             self.has_begun.set()
-            status = self.race.programs.finish(group)
-            if status:
+            if status := task.finish(group):
                 *_, last = folder.text("err", "message").strip().split("\n")
                 raise Fault(last or f"its program {ending(status)}")
-            pass_on(folder)
+            folder.pass_on()
             return folder.taken("out", "certificate")
 
 
-class Signals(Registers):
-    """Has ABC find the classes, of which a certificate is made at once, and, where it is none, once a step was seen to keep some."""
+class CorrespondingSignals(CorrespondingRegisters):
+    """Has ABC find the classes, of which a certificate is made at once.
+
+    If that is none, one is made once a step was seen to keep some classes."""
 
     name = guesses = "scorr"
     unshown = "what ABC finds to be equal doesn't show it"
 
-    def __init__(self, race):
-        super().__init__(race)
-        self.further = {"abc": abc(race.words), "is_taken": True}
+    def __init__(self, job: Job) -> None:
+        super().__init__(job)
+        self.further = {"abc": path_of_abc(job.options.abc), "is_taken": True}
 
-    def run(self):
+    def run(self) -> None:
         try:
             super().run()
         except Fault:

@@ -1,5 +1,7 @@
 """Registers that correspond: a program that guesses, by names and by random runs, which latches, and other nodes, of a circuit of two files
 are always equal, or each other's inverse, and prints a certificate that says so. Nothing here is believed."""
+from __future__ import annotations
+
 import copy
 import gc
 import itertools
@@ -7,15 +9,17 @@ import json
 import os
 import random
 import sys
+from collections.abc import Iterable, Iterator, Mapping, Sequence
+from typing import Any, Protocol
 
 from aigprove.circuits.aiger import Circuit, Fault, Lines
-from aigprove.circuits.normalised import Gates
+from aigprove.circuits.gates import Gates
 from aigprove.equality.classes import Classes, Different
 from aigprove.equality.implied import Pairs
-from aigprove.equality.incremental import Turns
-from aigprove.equality.merged_nodes import United, ordered
+from aigprove.equality.incremental import IncrementalQueries, Pair
+from aigprove.equality.merged_nodes import MergedNodes, ordered
 from aigprove.equality.nodes import Nodes
-from aigprove.processes.programs import Programs
+from aigprove.processes.scheduler import Scheduler, Scope
 from aigprove.questions.solver import Undecided
 
 # How aigedit begins the names of latches of the other file.
@@ -27,7 +31,16 @@ LEAST, QUICK, FEW, MANY = 1, 1000, 300, 20000
 AHEAD = [2, 6]
 
 
-def partners(circuit, count, others, alike):
+class Guess(Protocol):
+    """Classes of nodes that may be equal."""
+
+    nodes: Nodes
+
+    def pairs(self) -> list[Pair]:
+        """Returns pairs of nodes that a step keeps equal."""
+
+
+def partners(circuit: Circuit, count: int, others: int, alike: Mapping[int, int]) -> dict[int, int | None]:
     """Of two files with so many latches: the latch of the second, by its place, that is to be a latch of the first: one that starts like
     it, or has the same name, or else is at the same place."""
     names = {circuit.names.get(("l", i)): i for i in range(len(circuit.latches))}
@@ -36,7 +49,7 @@ def partners(circuit, count, others, alike):
     return {i: starting.get(i) or named.get(i) or (i + count if others == count else None) for i in range(count)}
 
 
-def paired(classes, other):
+def paired(classes: Classes, other: Mapping[int, int]) -> Classes:
     """Classes of which pairs of partners, by their literals, are apart from all else."""
     made = copy.copy(classes)
     made.rows = []
@@ -52,10 +65,10 @@ def paired(classes, other):
 class States:
     """Classes of latches that a step keeps, and of nodes that are equal wherever these are."""
 
-    def __init__(self, classes, solver):
+    def __init__(self, classes: Classes, solver: IncrementalQueries) -> None:
         self.classes, self.nodes, self.solver, self.is_hard = classes, classes.nodes, solver, False
 
-    def pairs(self):
+    def pairs(self) -> list[Pair]:
         """All pairs of latches, and if it is hard those of nodes, by which a step was seen to keep them and nothing bad to be there."""
         found = None
         while found is None:
@@ -68,7 +81,7 @@ class States:
                 self.is_hard = True
         return found
 
-    def kept(self):
+    def kept(self) -> list[Pair] | None:
         """These pairs; None where classes were split."""
         classes, size, states, proved = self.classes, self.classes.size(), self.classes.pairs(), 0
         nodes, known = self.nodes.merged(classes.merged(self.nodes.leaves(), 1))
@@ -83,7 +96,7 @@ class States:
             self.divide(inner, found[1])
         return None
 
-    def inner(self, nodes):
+    def inner(self, nodes: Nodes) -> Classes:
         """Classes of nodes that are equal where members of classes are, as random values have it, if it is hard; else there are none."""
         made = Classes(nodes, self.classes.rng, self.classes.every)
         if self.is_hard:
@@ -91,7 +104,7 @@ class States:
             made.excite()
         return made
 
-    def divide(self, inner, true):
+    def divide(self, inner: Classes, true: set[int]) -> None:
         """Splits what a solution, and others beside it, show to be different."""
         classes, nodes = self.classes, inner.nodes
         size, latches = classes.size() + inner.size(), classes.size()
@@ -105,12 +118,12 @@ class States:
             raise Fault("the solver's solution is none")
 
 
-def limits_for(gates):
+def limits_for(gates: int) -> list[str]:
     """The words of cadical's limits where it is to end soon, of so many gates."""
     return ["-t", str(LEAST + gates // QUICK), *(["-c", str(FEW)] if gates <= MANY else [])]
 
 
-def of_nodes(pairs, known):
+def of_nodes(pairs: Iterable[Pair], known: Sequence[int]) -> list[Pair]:
     """Pairs of literals as those of the first nodes that have them."""
     own = {value: literal for literal, value in reversed(list(enumerate(known)))}
     return [(own[left], own[right]) for left, right in pairs]
@@ -119,10 +132,10 @@ def of_nodes(pairs, known):
 class Steps:
     """Classes of nodes that first states have and a step keeps."""
 
-    def __init__(self, classes, solver):
+    def __init__(self, classes: Classes, solver: IncrementalQueries) -> None:
         self.classes, self.nodes, self.solver = classes, classes.nodes, solver
 
-    def pairs(self):
+    def pairs(self) -> list[Pair]:
         """Pairs of them, by which first states were seen to have them, and a step to keep them."""
         size = None
         self.settle()
@@ -132,31 +145,33 @@ class Steps:
             self.keep_next()
         return self.classes.pairs()
 
-    def keep_first(self):
+    def keep_first(self) -> None:
         """Splits classes until first states have them."""
-        nodes, classes, found = self.nodes, self.classes, True
-        while found:
+        nodes, classes = self.nodes, self.classes
+        while True:
             gates = Gates(nodes.latches.stop)
             state = nodes.first(nodes.latches, 1)
-            _, apart = United(classes, self.order).literals([*nodes.inputs, *state], gates, {})
+            _, apart = MergedNodes(classes, self.order).literals([*nodes.inputs, *state], gates, {})
             facts = [(literal, 1) for literal in self.constraints([*nodes.inputs, *state], gates)]
             found = self.solver.differing(gates, facts, [pair for _, pair in apart])
-            if found:
-                values = classes.beside([literal >> 1 in found[1] for literal in nodes.leaves()])
-                state = nodes.first(values[len(nodes.inputs):], classes.every)
-                self.follow([*values[:len(nodes.inputs)], *state], classes.every)
+            if found is None:
+                return
+            values = classes.beside([literal >> 1 in found[1] for literal in nodes.leaves()])
+            state = nodes.first(values[len(nodes.inputs):], classes.every)
+            self.follow([*values[:len(nodes.inputs)], *state], classes.every)
 
-    def constraints(self, leaves, gates):
+    def constraints(self, leaves: Sequence[int], gates: Gates) -> list[int]:
         """The literals of the constraints, by those of inputs and latches, whether classes hold or not."""
         return self.nodes.allowing(self.nodes.literals(leaves, gates)) if self.nodes.constraints else []
 
-    def keep_next(self):
+    def keep_next(self) -> None:
         """Splits classes until a step was seen to keep each of them, some perhaps in states in which others were equal that were split
         then."""
-        nodes, classes, proved = self.nodes, self.classes, set()
+        nodes, classes, proved = self.nodes, self.classes, set[tuple[int, int]]()
         inputs = range(nodes.latches.stop, nodes.latches.stop + 2 * len(nodes.inputs), 2)
         while True:
-            united, gates, merged = United(classes, self.order), Gates(inputs.stop), {}
+            united, gates = MergedNodes(classes, self.order), Gates(inputs.stop)
+            merged: dict[int, int] = {}
             now, equal = united.literals(nodes.leaves(), gates, merged)
             leaves = [*inputs, *nodes.following(now)]
             _, apart = united.literals(leaves, gates, merged)
@@ -168,28 +183,28 @@ class Steps:
             proved.update(names for names, _ in asked[: found[0]])
             self.divide(united, found[1])
 
-    def divide(self, united, true):
+    def divide(self, united: MergedNodes, true: set[int]) -> None:
         """Splits what a solution, and others beside it, show to be different in the next step."""
         count = len(self.nodes.leaves())
         values = self.classes.beside([number in true for number in range(1, count + len(self.nodes.inputs) + 1)])
         state, runs = self.after(united, values[:count])
         self.follow([*values[count:], *state], runs)
 
-    def after(self, united, leaves):
+    def after(self, united: MergedNodes, leaves: Sequence[int]) -> tuple[list[int], int]:
         """The latches in the step that follows one in which members of classes are equal, and the runs in which they are."""
         known = self.nodes.values(united.leaves(leaves, self.classes.every), self.classes.every)
         return self.nodes.following(known), self.nodes.allowed(known, self.classes.equal(known))
 
-    def settle(self):
+    def settle(self) -> None:
         """Splits classes by steps from random states in which members are equal, until that splits none."""
         classes, size = self.classes, None
         while size != (size := classes.size()):
             self.order = ordered(classes)
-            state, runs = self.after(United(classes, self.order), classes.drawn(self.nodes.leaves()))
+            state, runs = self.after(MergedNodes(classes, self.order), classes.drawn(self.nodes.leaves()))
             if runs:
                 classes.follow([*classes.drawn(self.nodes.inputs), *classes.spread(state, runs)], classes.every)
 
-    def follow(self, leaves, runs):
+    def follow(self, leaves: Sequence[int], runs: int) -> None:
         """Splits classes by runs from a step on, which has to split one."""
         size = self.classes.size()
         self.classes.follow(leaves, runs)
@@ -197,7 +212,7 @@ class Steps:
             raise Fault("the solver's solution is none")
 
 
-def certificate(nodes, pairs):
+def certificate(nodes: Nodes, pairs: list[Pair]) -> bytes:
     """The text of a certificate whose bad states are those in which a pair differs; of what stands on others first, as they are asked about
     the last first. It has the gates that pairs read."""
     pairs, gates = Pairs(nodes, pairs).needed(), Gates(nodes.gates.next)
@@ -215,10 +230,11 @@ class Guesses:
     """What may be equal in a circuit of two files, of which it has so many latches each, and some start like others: classes of nodes, first
     of latches alone, which are split until a step keeps them."""
 
-    def __init__(self, circuit, alike, solver, given):
-        self.circuit, self.alike, self.solver, self.given, self.counts = circuit, alike, solver, given, given["counts"]
+    def __init__(self, circuit: Circuit, alike: Mapping[int, int], solver: IncrementalQueries, given: dict[str, Any]) -> None:
+        self.circuit, self.alike, self.solver, self.given = circuit, alike, solver, given
+        self.counts: tuple[int, int] = (given["counts"][0], given["counts"][1])
 
-    def certificate(self):
+    def certificate(self) -> bytes | None:
         """The certificate of the first guess that a step keeps; None where there is none."""
         try:
             for guess in self.guesses():
@@ -228,23 +244,25 @@ class Guesses:
             pass
         return None
 
-    def guesses(self):
+    def guesses(self) -> Iterator[Guess]:
         """What may be equal: registers and their partners, others, and other nodes, also in steps ahead."""
         nodes, rng = Nodes(self.circuit, self.alike), random.Random(0)
         latches = Classes(nodes, rng).begin([0, *nodes.latches])
         given = partners(self.circuit, *self.counts, self.alike)
         other = {nodes.latches[i]: nodes.latches[it] for i, it in given.items() if it is not None}
         # As many registers are seldom those of another time.
-        ways = [[States(latches, self.solver)], self.present(rng), self.ahead(rng)]
-        ways = ways if self.counts[0] == self.counts[1] else reversed(ways)
+        ways: list[Iterable[Guess]] = [
+            [States(latches, self.solver)], self.present(rng), self.ahead(rng)]
+        if self.counts[0] != self.counts[1]:
+            ways.reverse()
         yield from itertools.chain([States(paired(latches, other), self.solver)], *ways)
 
-    def present(self, rng):
+    def present(self, rng: random.Random) -> Iterator[Guess]:
         """Nodes of one step."""
         nodes = Nodes(self.circuit, self.alike)
         yield Steps(Classes(nodes, rng).begin(nodes.all()), self.solver)
 
-    def ahead(self, rng):
+    def ahead(self, rng: random.Random) -> Iterator[Guess]:
         """Also nodes of the next steps, first without those that are equal to such alone."""
         whole = []
         for steps in AHEAD:
@@ -254,21 +272,21 @@ class Guesses:
         for classes in whole:
             yield Steps(classes, self.solver)
 
-    def nodes_ahead(self, steps):
+    def nodes_ahead(self, steps: int) -> tuple[int, Nodes]:
         """Nodes, and also those of so many next steps, behind the place before which the others are."""
         nodes = Nodes(self.circuit, self.alike)
         stop = nodes.all().stop
         nodes.look_ahead(steps)
         return stop, nodes
 
-    def kept(self, guess):
+    def kept(self, guess: Guess) -> list[Pair] | None:
         try:
             return guess.pairs()
         except Different:
             return None
 
 
-def run(make, folder, asked):
+def run(make: type[Guesses], folder: str, asked: str) -> None:
     """Prints the certificate for the file `file.aag` of a folder, if there is one, of what is made of its circuit and of what is asked: which
     latches start like others, how many are of each file, and which solver asks."""
     # It soon ends, and what it makes isn't looked through for what could go.
@@ -277,7 +295,8 @@ def run(make, folder, asked):
     with open(os.path.join(folder, "file.aag"), "rb") as file:
         circuit = Circuit(Lines(file.read(), "FILE"), given["limit"])
     alike = {int(place): partner for place, partner in given["alike"].items()}
-    solver = Turns(given["solver"], given["is_cadical"], Programs(1), None, folder)
+    task = Scope(Scheduler(1)).task("guesses")
+    solver = IncrementalQueries(given["solver"], given["is_cadical"], task, folder)
     try:
         made = make(circuit, alike, solver, given).certificate()
     except Fault as why:
@@ -286,5 +305,5 @@ def run(make, folder, asked):
         sys.stdout.buffer.write(made)
 
 
-def main(*words):
-    run(Guesses, *words)
+def main(folder: str, asked: str) -> None:
+    run(Guesses, folder, asked)

@@ -1,18 +1,24 @@
 """Which of the pairs of nodes that a certificate says to be equal may be left out, as they follow from the others by unit propagation.
 Nothing here is believed."""
-from aigprove.circuits.normalised import Gates
+from __future__ import annotations
+
+from collections.abc import Sequence
+
+from aigprove.circuits.gates import Gates
+from aigprove.equality.nodes import Nodes
 
 
 class Pairs:
     """Pairs of nodes of which each first one stands for the other, in a circuit where all pairs are equal."""
 
-    def __init__(self, nodes, pairs):
+    def __init__(self, nodes: Nodes, pairs: Sequence[tuple[int, int]]) -> None:
         self.nodes, self.pairs = nodes, pairs
         self.standing = {right & ~1: left ^ right & 1 for left, right in pairs if left < right}
         self.inputs = range(nodes.latches.stop, nodes.latches.stop + 2 * len(nodes.inputs), 2)
-        self.gates, self.implied = Gates(self.inputs.stop), {}
+        self.gates = Gates(self.inputs.stop)
+        self.implied: dict[int, int] = {}
 
-    def unite(self):
+    def unite(self) -> list[int]:
         """The literals of all nodes. Finds the gates that are what stands for them once those below them are."""
         known, gates = [0, 1], self.gates
         for leaf in self.nodes.leaves():
@@ -28,21 +34,21 @@ class Pairs:
             known += value, value ^ 1
         return known
 
-    def apart(self):
+    def apart(self) -> set[int]:
         """Such gates that aren't what stands for them in the next step as well, unless pairs are equal there, too."""
         now = self.unite()
         later = self.nodes.literals([*self.inputs, *self.nodes.following(now)], self.gates)
         return {gate for gate, same in self.implied.items() if later[gate] != later[same]}
 
-    def read(self, gate):
+    def read(self, gate: int) -> set[int]:
         """The nodes that a gate reads."""
         rows, first = self.nodes.gates.rows, self.nodes.latches.stop
         return {literal & ~1 for literal in rows[(gate - first) >> 1][1:]} if gate >= first else set()
 
-    def needed(self):
+    def needed(self) -> list[tuple[int, int]]:
         """The pairs that stay. In the next step a pair of gates may be left out if its operands are equal by clauses, but not if they are
         themselves pairs that were left out so: that would take cases."""
-        apart, left_out = self.apart(), set()
+        apart, left_out = self.apart(), set[int]()
         for gate in filter(apart.__contains__, self.implied):
             if left_out.isdisjoint(self.read(gate) | self.read(self.implied[gate] & ~1)):
                 left_out.add(gate)

@@ -1,67 +1,77 @@
-"""Questions about many literals, or pairs of them, which cadical is asked in turn: it goes on with what it learned."""
-from aigprove.processes.programs import Fault, Folder, Module
-from aigprove.questions.solver import ASSUMING, HINTED, Solver
+"""Queries about many literals, or pairs of them, which cadical is asked in turn.
+
+It goes on with what it learned. Another solver is asked about all at once. Nothing here is
+believed."""
+from __future__ import annotations
+
+from collections.abc import Iterable, Sequence
+
+from aigprove.circuits.aiger import Fault
+from aigprove.circuits.gates import Gates
+from aigprove.processes.folder import Folder
+from aigprove.processes.scheduler import Task
+from aigprove.processes.sealed import Sealed
+from aigprove.questions.solver import ASSUMING, HINTED, ended, true_of
+
+Pair = tuple[int, int]
 
 
-def apart(left, right):
-    """Both ways in which two literals differ, each as literals that are all true then."""
-    return [[it for it in way if it != 1] for way in [(left, right ^ 1), (left ^ 1, right)] if 0 not in way]
+def apart(left: int, right: int) -> list[list[int]]:
+    """Returns both ways in which two literals differ, each as literals that are all true then."""
+    return [[it for it in way if it != 1]
+            for way in [(left, right ^ 1), (left ^ 1, right)] if 0 not in way]
 
 
-def dimacs(literal):
+def dimacs(literal: int) -> int:
+    """Returns a literal as solvers have it."""
     return -(literal >> 1) if literal & 1 else literal >> 1
 
 
-def line(literals):
-    """The literals of a clause, as solvers read them."""
+def line(literals: Iterable[int]) -> str:
+    """Returns the literals of a clause, as solvers read them."""
     return " ".join([*(str(dimacs(it)) for it in literals), "0\n"])
 
 
-def gate_clauses(gates):
-    """The clauses of gates, three each."""
+def gate_clauses(gates: Gates) -> list[str]:
+    """Returns the clauses of gates, three each."""
     rows = ((gate >> 1, dimacs(left), dimacs(right)) for gate, left, right in gates.rows)
-    return [f"-{gate} {left} 0\n-{gate} {right} 0\n{gate} {-left} {-right} 0\n" for gate, left, right in rows]
+    return [f"-{gate} {left} 0\n-{gate} {right} 0\n{gate} {-left} {-right} 0\n"
+            for gate, left, right in rows]
 
 
-def equal_clauses(pairs):
-    """Clauses that say that pairs are equal."""
+def equal_clauses(pairs: Iterable[Pair]) -> list[str]:
+    """Returns clauses that say that pairs are equal."""
     return [line(it ^ 1 for it in way) for pair in pairs for way in apart(*pair)]
 
 
-def ways_in_turn(ways):
-    """What behind clauses asks about ways in turn."""
+def ways_in_turn(ways: Iterable[Sequence[int]]) -> list[str]:
+    """Returns what behind clauses asks about ways in turn."""
     return [f"a {line(way)}" for way in ways]
 
 
-def ways_at_once(ways, first):
-    """Clauses that ask about all ways at once, by variables from this one on."""
+def ways_at_once(ways: Sequence[Sequence[int]], first: int) -> list[str]:
+    """Returns clauses that ask about all ways at once, by variables from this one on."""
     chosen = range(2 * first, 2 * (first + len(ways)), 2)
-    return [*(line([own ^ 1, literal]) for own, way in zip(chosen, ways) for literal in way), line(chosen)]
+    clauses = [line([own ^ 1, literal]) for own, way in zip(chosen, ways) for literal in way]
+    return [*clauses, line(chosen)]
 
 
-class Turns(Solver):
-    """cadical, which is asked about one literal, or one way in which a pair of literals differs, after the other; another solver is asked
-    about all at once."""
+class IncrementalQueries:
+    """A solver that is asked about one literal, or a way in which a pair differs, after another."""
 
-    def __init__(self, words, is_cadical, *others):
-        super().__init__(words, *others)
-        self.is_cadical, self.gates = is_cadical, None
-        self.turning = [*(word for word in self.words if word != HINTED), ASSUMING]
+    def __init__(self, words: Sequence[str], is_cadical: bool, task: Task, above: str) -> None:
+        self.words, self.is_cadical, self.task, self.above = words, is_cadical, task, above
+        # The gates of the last question, and their clauses.
+        self.gates: Gates | None = None
+        self.clauses = ""
 
-    def ask(self, question, file):
-        """The same of a question, of cadical about the literals of its last clause in turn, where equal variables are merged."""
-        if not self.is_cadical:
-            return super().ask(question, file)
-        with Folder(self.above) as folder:
-            with folder.make("clauses.cnf") as out:
-                self.judge.print_question(question, file, out)
-            status = self.ended(folder, Module("merging", folder.path, *self.turning))
-            return status == 10, folder.taken("out", "answer" if status == 10 else "proof")
+    def differing(self, gates: Gates, facts: Iterable[Pair], pairs: Sequence[Pair],
+                  limits: Sequence[str] = ()) -> tuple[int, set[int]] | None:
+        """Returns the place of a pair that can differ, and the variables that are true then.
 
-    def differing(self, gates, facts, pairs, limits=()):
-        """Where gates hold and pairs of facts are equal: the place of a pair that can differ, and the variables that are true then; what
-        stands before that place can't. None where none can, as the solver says: nobody has looked at a proof. cadical keeps to limits, which
-        are words."""
+        Gates hold there, and pairs of facts are equal; what stands before that place can't differ.
+        The result is None if none can, as the solver says: nobody has looked at a proof. cadical
+        keeps to limits, which are words."""
         ways = [way for pair in pairs for way in apart(*pair)]
         if not ways:
             return None
@@ -69,26 +79,35 @@ class Turns(Solver):
             with folder.make("asked") as out:
                 out.writelines(text.encode() for text in self.asked(gates, facts, ways))
             # Only of cadical is it known that it needn't write a proof.
-            words = [*self.turning, *limits] if self.is_cadical else self.words
-            status = self.ended(folder, [*words, folder.place("asked"), *[folder.place("proof")] * (not self.is_cadical)])
+            words = [*in_turn(self.words), *limits] if self.is_cadical else self.words
+            proof = [] if self.is_cadical else [folder.place("proof")]
+            called = [*words, folder.place("asked"), *proof]
+            status = ended(self.task, folder, called, self.words[0])
             return self.solved(folder.taken("out", "answer"), pairs) if status == 10 else None
 
-    def asked(self, gates, facts, ways):
-        """The pieces of a question; the clauses of gates are kept for the next one."""
+    def asked(self, gates: Gates, facts: Iterable[Pair],
+              ways: Sequence[Sequence[int]]) -> list[str]:
+        """Returns the pieces of a question; the clauses of gates are kept for the next one."""
         if self.gates is not gates:
             self.gates, self.clauses = gates, "".join(gate_clauses(gates))
         further = equal_clauses(facts)
         if self.is_cadical:
             return ["p inccnf\n", self.clauses, "".join(further + ways_in_turn(ways))]
         further += ways_at_once(ways, gates.next >> 1)
-        return [f"p cnf {(gates.next >> 1) + len(ways) - 1} {3 * len(gates.rows) + len(further)}\n", self.clauses, "".join(further)]
+        variables = (gates.next >> 1) + len(ways) - 1
+        head = f"p cnf {variables} {3 * len(gates.rows) + len(further)}\n"
+        return [head, self.clauses, "".join(further)]
 
-    def solved(self, solution, pairs):
-        """What a solution says of pairs."""
-        lines = solution.bytes().decode("ascii", "replace").splitlines()
-        true = {int(word) for line in lines if line.startswith("v ") for word in line.split()[1:] if word.isdigit()} - {0}
-        value = lambda literal: (literal >> 1 in true) ^ (literal & 1)
-        place = next((i for i, (left, right) in enumerate(pairs) if value(left) != value(right)), None)
-        if place is None:
-            raise Fault("the solver's solution is none")
-        return place if self.is_cadical else 0, true
+    def solved(self, solution: Sealed, pairs: Sequence[Pair]) -> tuple[int, set[int]]:
+        """Returns what a solution says of pairs."""
+        true = true_of(solution)
+        for place, pair in enumerate(pairs):
+            left, right = ((it >> 1 in true) ^ (it & 1) for it in pair)
+            if left != right:
+                return place if self.is_cadical else 0, true
+        raise Fault("the solver's solution is none")
+
+
+def in_turn(words: Iterable[str]) -> list[str]:
+    """Returns the words that call cadical for questions in turn."""
+    return [*(word for word in words if word != HINTED), ASSUMING]

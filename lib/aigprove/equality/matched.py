@@ -1,13 +1,18 @@
 """What is matched of two files that are compared: registers with open start by order or by name, as aigedit and aigcheck do themselves; and
 of designs inputs, outputs and bad literals by their names, for which the second one's file is put in order."""
+from __future__ import annotations
+
 import collections
 import copy
 import re
+from collections.abc import Iterable, Iterator, Mapping, Sequence
 
-from aigprove.circuits.aiger import KINDS
+from aigprove.circuits.aiger import KINDS, Circuit, Symbols, decoded, encoded
 from aigprove.equality.mismatch import SIGNALS
+from aigprove.output.messages import escaped
 from aigprove.output.signals import word
-from aigprove.processes.programs import escaped
+
+Named = Circuit | Symbols
 
 # How registers with open start begin: each as it likes, or like that of the other file which is matched so.
 APART, BY_ORDER, BY_NAME = STARTS = ["apart", "by-order", "by-name"]
@@ -17,47 +22,43 @@ SUFFIXES = {way: "" if way == APART else f"-alike-{way}" for way in STARTS}
 NAMED, MADE = 10, re.compile(r"_[0-9]+_(\[[0-9]+\])?")
 
 
-def opened(circuit):
-    """The places of the registers that may start with either value."""
-    return [i for i, reset in enumerate(circuit.resets) if reset > 1]
-
-
-def partners(way, first, other):
+def partners(way: str, first: Circuit, other: Circuit) -> dict[int, int]:
     """The place of the first circuit's register for each of the other's that starts like it, by its place."""
-    ours, theirs = opened(first), opened(other)
+    ours, theirs = first.opened(), other.opened()
     if way == BY_ORDER:
         return dict(zip(theirs, ours))
     named = {first.names[place]: place[1] for i in reversed(ours) if way == BY_NAME and (place := ("l", i)) in first.names}
     return {i: named[name] for i in theirs if (name := other.names.get(("l", i))) in named}
 
 
-def way_by_names(circuits):
+def way_by_names(circuits: Iterable[Circuit]) -> str:
     """By name, where all registers with open start have one, else by order."""
-    return BY_NAME if all(("l", i) in circuit.names for circuit in circuits for i in opened(circuit)) else BY_ORDER
+    return BY_NAME if all(("l", i) in circuit.names for circuit in circuits for i in circuit.opened()) else BY_ORDER
 
 
 class Starts:
     """How registers with open start begin in two circuits; what stands behind the names of commands, and what behind lines. Where no two
     are matched all are apart."""
 
-    def __init__(self, way, *circuits):
+    def __init__(self, way: str, *circuits: Circuit) -> None:
         self.partners = partners(way, *circuits) if circuits else {}
         self.way = way if self.partners else APART
         self.suffix = SUFFIXES[self.way]
         self.said = f", registers with open start alike {way.replace('-', ' ')}" * (self.way != APART)
 
 
-def alone(way, paths, first, other):
+def alone(way: str, paths: Sequence[str], first: Circuit, other: Circuit) -> Iterator[str]:
     """Lines of the registers with open start that have no partner in the other file, and why."""
     found = partners(way, first, other)
     yield from lines_of_alone(way, paths, first, other, set(found.values()))
     yield from lines_of_alone(way, paths[::-1], other, first, set(found))
 
 
-def lines_of_alone(way, paths, own, other, matched):
+def lines_of_alone(way: str, paths: Sequence[str], own: Circuit, other: Circuit, matched: set[int]) -> Iterator[str]:
     """These lines of one file, in which registers at these places have partners."""
-    names, known = collections.defaultdict(dict), open_names(other)
-    for place in opened(own):
+    names = collections.defaultdict[str, dict[str, bool]](dict)
+    known = open_names(other)
+    for place in own.opened():
         if place not in matched:
             why = "{} has fewer" if way == BY_ORDER else why_alone(own.names.get(("l", place)), known)
             names[why][told(own, place)] = True
@@ -66,22 +67,22 @@ def lines_of_alone(way, paths, own, other, matched):
         yield f"{escaped(paths[0])}: open at the start, without a partner: {' '.join(listed)} ({why.format(escaped(paths[1]))})"
 
 
-def told(circuit, place):
+def told(circuit: Circuit, place: int) -> str:
     """A register as it is told: by its place where it has no name, and the bits of a word as one."""
     name = circuit.names.get(("l", place))
-    return f"l{place}" if name is None else word(re.sub(rb"\[[0-9]+\]$", b"", name).decode("utf-8", "surrogateescape"))
+    return f"l{place}" if name is None else word(decoded(re.sub(rb"\[[0-9]+\]$", b"", name)))
 
 
-def open_names(circuit):
+def open_names(circuit: Circuit) -> dict[bytes | None, bool]:
     """Of the names of a circuit's registers, whether one with open start has it."""
-    known = {}
+    known: dict[bytes | None, bool] = {}
     for i, reset in enumerate(circuit.resets):
         name = circuit.names.get(("l", i))
         known[name] = known.get(name, False) or reset > 1
     return known
 
 
-def why_alone(name, known):
+def why_alone(name: bytes | None, known: Mapping[bytes | None, bool]) -> str:
     """Why a register of this name has no partner by name, where these are known of another file."""
     if name is None:
         return "no name"
@@ -90,7 +91,7 @@ def why_alone(name, known):
     return "another one has that name" if known[name] else "that of {} starts with a constant"
 
 
-def order(letter, first, other):
+def order(letter: str, first: Named, other: Named) -> list[int] | None:
     """The places of the second circuit's signals of a kind in the order in which the first has their names; as they stand where the counts
     differ, or some have no name or the same one. None where both haven't the same names."""
     ours, theirs = ([it.names.get((letter, i)) for i in range(getattr(it.header, KINDS[letter]))] for it in (first, other))
@@ -100,12 +101,12 @@ def order(letter, first, other):
     return [places[name] for name in ours] if places.keys() == set(ours) else None
 
 
-def orders(first, other):
+def orders(first: Named, other: Named) -> dict[str, list[int] | None]:
     """These of all kinds, by their letters."""
     return {letter: order(letter, first, other) for letter in SIGNALS}
 
 
-def arranged(circuit, places):
+def arranged(circuit: Circuit, places: Mapping[str, Sequence[int]]) -> Circuit:
     """The circuit with its signals of these kinds in the order of these places."""
     made = copy.copy(circuit)
     made.names = {place: name for place, name in circuit.names.items() if place[0] not in places}
@@ -116,15 +117,15 @@ def arranged(circuit, places):
     return made
 
 
-def best(names):
+def best(names: Iterable[str]) -> str:
     """Of the names of a register one that a person gave, of fewest modules, and of these the shortest."""
     return min(names, key=lambda name: (MADE.fullmatch(name) is not None, name.count("."), len(name), name))
 
 
-def chosen(designs):
+def chosen(designs: Sequence[Mapping[int, Sequence[str]]]) -> list[dict[int, str]]:
     """A name for each register of designs, of which all names are given by their places: of two designs one that both have, where there is
     such, and else one that no other register of the same has."""
-    made = [{} for _ in designs]
+    made: list[dict[int, str]] = [{} for _ in designs]
     if len(designs) == 2:
         places = {name: place for place, names in designs[1].items() for name in names}
         for place, names in designs[0].items():
@@ -140,9 +141,9 @@ def chosen(designs):
     return made
 
 
-def with_registers(circuit, names):
+def with_registers(circuit: Circuit, names: Mapping[int, str]) -> Circuit:
     """The circuit with these names of registers, by their places."""
     made = copy.copy(circuit)
     made.names = {place: name for place, name in circuit.names.items() if place[0] != "l"}
-    made.names.update((("l", place), names[place].encode("utf-8", "surrogateescape")) for place in sorted(names))
+    made.names.update((("l", place), encoded(names[place])) for place in sorted(names))
     return made

@@ -1,10 +1,20 @@
 """What nodes are where those of a class are one. Nothing here is believed."""
+from __future__ import annotations
+
+from collections.abc import Sequence
+
+from aigprove.circuits.gates import Gates
+from aigprove.equality.classes import Classes
+
+# Two nodes that aren't one by themselves, and the literals that they would be.
+Apart = tuple[tuple[int, int], tuple[int, int]]
 
 
-def read_by(classes):
+def read_by(classes: Classes) -> dict[int, tuple[int, ...]]:
     """What stands before each node: before a gate its operands, and before a latch the first gate of its class, if there is one."""
     nodes = classes.nodes
-    read = {gate: (left & ~1, right & ~1) for gate, left, right in nodes.gates.rows}
+    read: dict[int, tuple[int, ...]] = {
+        gate: (left & ~1, right & ~1) for gate, left, right in nodes.gates.rows}
     for own in classes.rows:
         gate = next((it & ~1 for it in own if it >= nodes.latches.stop), None)
         if gate is not None:
@@ -12,7 +22,7 @@ def read_by(classes):
     return read
 
 
-def ordered(classes):
+def ordered(classes: Classes) -> list[int]:
     """All nodes, by their literals, in an order in which each stands behind what it reads, but for latches that a gate of their class
     reads."""
     read, order, done, first = read_by(classes), [], {0}, classes.nodes.latches.stop
@@ -36,10 +46,10 @@ def ordered(classes):
     return order
 
 
-class United:
+class MergedNodes:
     """All nodes in an order, and for each the literal of the one of its class that stands before all others there, if it is another."""
 
-    def __init__(self, classes, order):
+    def __init__(self, classes: Classes, order: Sequence[int]) -> None:
         self.nodes, self.rows, first = classes.nodes, [], classes.nodes.latches.stop
         own = {it >> 1: (number, it & 1) for number, row in enumerate(classes.rows) for it in row}
         standing = {own[0][0]: own[0][1]} if 0 in own else {}
@@ -49,7 +59,7 @@ class United:
             same = it if number is None else standing.setdefault(number, it ^ side) ^ side
             self.rows.append((it, below, None if same == it else same))
 
-    def literals(self, leaves, gates, merged):
+    def literals(self, leaves: Sequence[int], gates: Gates, merged: dict[int, int]) -> tuple[list[int], list[Apart]]:
         """The literals of all nodes, by those of inputs and latches, and pairs that aren't one by themselves: the literals of two nodes,
         and what they would be. What is equal so, as all pairs are from there on, is told in `merged`."""
         known, apart = [0, 1] + [0] * (self.nodes.all().stop - 2), []
@@ -64,7 +74,7 @@ class United:
             known[it], known[it + 1] = value, value ^ 1
         return known, apart
 
-    def leaves(self, values, every):
+    def leaves(self, values: Sequence[int], every: int) -> list[int]:
         """Values of inputs and latches for which members of a class are equal, as far as latches may be what others are."""
         known = [0, every] + [0] * (self.nodes.all().stop - 2)
         for it, below, same in self.rows:

@@ -1,4 +1,9 @@
 """Why two files can't be compared: what one of them has and the other hasn't."""
+from __future__ import annotations
+
+from collections.abc import Container, Sequence
+
+from aigprove.circuits.aiger import Circuit, decoded
 from aigprove.output.signals import word
 
 # How many names are said of each file.
@@ -7,21 +12,21 @@ NAMED = 10
 SIGNALS = {"i": ("inputs", "inputs"), "o": ("outputs", "outputs"), "b": ("bad literals", "bads")}
 
 
-def names_of(circuit, letter, count):
+def names_of(circuit: Circuit, letter: str, count: int) -> tuple[list[bytes], bool]:
     """The names of the signals of a kind, of which there are so many, and whether all have one."""
     names = [circuit.names[letter, i] for i in range(count) if (letter, i) in circuit.names]
     return names, len(names) == count
 
 
-def alone(path, own, other):
+def alone(path: str, own: tuple[list[bytes], bool], other: tuple[list[bytes], bool]) -> list[str]:
     """Which names one file has alone, in a list of one, where they tell that: where each signal of the other one has a name."""
     names, (others, has_all) = own[0], other
-    found = [word(name.decode("utf-8", "surrogateescape")) for name in names if has_all and name not in others]
+    found = [word(decoded(name)) for name in names if has_all and name not in others]
     more = ["and others"] * (len(found) > NAMED)
     return [f"{path} alone has {', '.join([*found[:NAMED], *more])}"] if found else []
 
 
-def told(letter, paths, circuits, is_named):
+def told(letter: str, paths: Sequence[str], circuits: Sequence[Circuit], is_named: bool) -> str:
     """How many signals of a kind two files have, and the names of those that one of them has alone, where they are to have the same."""
     what, attribute = SIGNALS[letter]
     counts = [getattr(circuit.header, attribute) for circuit in circuits]
@@ -31,6 +36,6 @@ def told(letter, paths, circuits, is_named):
     return f"{counts[0]} and {counts[1]} {what}" + f" ({'; '.join(found)})" * bool(found)
 
 
-def misfit(paths, circuits, named=""):
+def mismatch(paths: Sequence[str], circuits: Sequence[Circuit], named: Container[str] = "") -> str:
     """The line that says why two files don't fit, whose signals of some kinds, by these letters, have other names."""
     return f"{' and '.join(paths)} don't fit: {', '.join(told(letter, paths, circuits, letter in named) for letter in SIGNALS)}"

@@ -1,15 +1,21 @@
 """Signals that correspond: a program that has ABC find which nodes of a circuit of two files are always equal, or each other's inverse, and
 prints a certificate that says so. Nothing here is believed."""
+from __future__ import annotations
+
 import collections
 import random
+from collections.abc import Iterable, Iterator
 
-from aigprove.circuits.aiger import Header, Lines
-from aigprove.circuits.normalised import Gates, binary
+from aigprove.circuits.aiger import Fault, Header, Lines
+from aigprove.circuits.gates import Gates, binary
 from aigprove.equality import guesses
 from aigprove.equality.classes import Classes
-from aigprove.equality.guesses import AHEAD, Guesses, Steps
+from aigprove.equality.guesses import AHEAD, Guess, Guesses, Steps
+from aigprove.equality.incremental import IncrementalQueries, Pair
 from aigprove.equality.merged_nodes import ordered
-from aigprove.processes.programs import Fault, Folder, ending
+from aigprove.equality.nodes import Nodes
+from aigprove.output.messages import ending
+from aigprove.processes.folder import Folder
 
 # What ABC does with a machine each of whose nodes is an output: it unites nodes of which a step shows that they are always equal. With nodes of
 # next steps it moves registers forward before that, so that those of one time meet, and looks at two steps. Outputs are of one literal then,
@@ -21,7 +27,7 @@ PRESENT, MOVED = "scorr", "dretime -m; zero; scorr -F 2"
 PART = 0.9
 
 
-def machine(nodes):
+def machine(nodes: Nodes) -> bytes:
     """A machine in binary form that has some nodes as its outputs, from the first latch on, and whose latches are 0 at first."""
     if any(nodes.resets):
         return begun(nodes)
@@ -29,7 +35,7 @@ def machine(nodes):
     return binary(len(nodes.inputs), nodes.nexts, outputs, nodes.gates)
 
 
-def begun(nodes):
+def begun(nodes: Nodes) -> bytes:
     """The same where latches are 1 at first, or open: the latch behind all others says whether the machine has begun, and else an input is an
     open latch's value."""
     count, latches = len(nodes.inputs), len(nodes.latches)
@@ -44,7 +50,7 @@ def begun(nodes):
     return binary(count + len(opened), [*nexts, 1], known[nodes.latches.start::2], gates)
 
 
-def outputs(data):
+def outputs(data: bytes) -> list[int]:
     """The literals of the outputs of a file in binary form."""
     lines = Lines(data, "ABC's file")
     header = Header(lines)
@@ -52,7 +58,7 @@ def outputs(data):
     return [literal for literal, in lines.rows(header.outputs, 1)]
 
 
-def rows(nodes, literals):
+def rows(nodes: Nodes, literals: Iterable[int]) -> list[list[int]]:
     """Classes of nodes, by what stands for each from the first latch on; that of 0 is the first one."""
     found = collections.defaultdict(list, {0: [0]})
     for node, literal in zip(range(nodes.latches.start, nodes.all().stop, 2), literals):
@@ -63,21 +69,21 @@ def rows(nodes, literals):
 class Found(Steps):
     """Classes that ABC found, which random steps don't split. That a step keeps them may be taken as it is."""
 
-    def __init__(self, classes, solver, is_taken):
+    def __init__(self, classes: Classes, solver: IncrementalQueries, is_taken: bool) -> None:
         super().__init__(classes, solver)
         self.is_taken = is_taken
 
-    def pairs(self):
+    def pairs(self) -> list[Pair]:
         return self.classes.pairs() if self.is_taken else super().pairs()
 
-    def settle(self):
+    def settle(self) -> None:
         self.order = ordered(self.classes)
 
 
-class Signals(Guesses):
+class FoundSignals(Guesses):
     """What ABC finds to be equal in a circuit of two files."""
 
-    def guesses(self):
+    def guesses(self) -> Iterator[Guess]:
         """Nodes, if the files have as many latches, and those of the next steps with them, where nothing bad is left."""
         # ABC moves no registers where there are none.
         ways = [*[0] * (self.counts[0] == self.counts[1]), max(AHEAD)] if self.circuit.latches else []
@@ -91,15 +97,15 @@ class Signals(Guesses):
                 is_less = len(fewer.nodes.gates.rows) < PART * len(nodes.gates.rows)
                 yield Found(fewer if is_less else classes, self.solver, self.given["is_taken"])
 
-    def united(self, nodes, commands):
+    def united(self, nodes: Nodes, commands: str) -> list[int]:
         """What stands for each node, from the first latch on, in the circuit that commands of ABC leave."""
         with Folder(self.solver.above) as folder:
             with folder.make("nodes.aig") as out:
                 out.write(machine(nodes))
-            if status := folder.run(self.solver.programs, [self.given["abc"], "-q", UNITE.format(commands)]):
+            if status := folder.run(self.solver.task, [self.given["abc"], "-q", UNITE.format(commands)]):
                 raise Fault(f"ABC {ending(status)}")
-            return outputs(folder.taken("united.aig", "circuit").bytes())
+            return outputs(folder.taken("united.aig", "circuit").data())
 
 
-def main(*words):
-    guesses.run(Signals, *words)
+def main(folder: str, asked: str) -> None:
+    guesses.run(FoundSignals, folder, asked)

@@ -1,25 +1,38 @@
 """Commands that ask about each property by itself, on whatever machine."""
+from __future__ import annotations
+
 import os
 import shlex
+from collections.abc import Iterable, Iterator
+
+from aigprove.options.options import Options
+from aigprove.output.report import PropertyAnswer
+from aigprove.questions.bad_states import BadStates
+from aigprove.questions.justice import Justices
 
 # What one command asks: engines that need one another go together.
 TOGETHER = [("bmc3",), ("pdr",), ("bounded",), ("steps", "windows")]
-# Seconds that a command has, where none are given.
+# Seconds that a command has, if none are given.
 SECONDS = 60
-# Options that each command has as they were given.
-PASSED = ["bound", "limit"]
 
 
-def lines(words, sources, answers):
-    """A line for each property and for engines that go together: it reads the file in the folder of --keep, and keeps what it shows in a
-    new folder in it."""
-    given = [word for name in PASSED if getattr(words, name) is not None for word in (f"--{name}", str(getattr(words, name)))]
-    seconds = SECONDS if words.timeout is None else words.timeout
-    for source in sources:
-        for answer in answers:
-            for engines in TOGETHER if answer.letter == source.letter else []:
-                names = [name for name in engines if name in words.engines]
-                if names:
-                    place = os.path.join(words.keep, f"{source.stems[1]}-{answer.number}-{names[0]}")
-                    asked = [f"--{source.option}", str(answer.number), "--engine", ",".join(names), "--timeout", f"{seconds:g}"]
-                    yield shlex.join(["aigprove", "-q", *given, *asked, "--keep", place, os.path.join(words.keep, source.name)])
+def lines(options: Options, sources: Iterable[BadStates | Justices],
+          answers: Iterable[PropertyAnswer]) -> Iterator[str]:
+    """Yields a line for each property and for engines that go together.
+
+    Such a command reads the file in the folder of --keep, and keeps what it shows in a new folder
+    in it."""
+    folder = options.keep or ""
+    numbers = {"bound": options.bound, "limit": options.limit}
+    given = [word for name, number in numbers.items() if number is not None
+             for word in (f"--{name}", str(number))]
+    seconds = SECONDS if options.timeout is None else options.timeout
+    for source, answer in ((source, answer) for source in sources for answer in answers):
+        for engines in TOGETHER if answer.letter == source.letter else []:
+            names = [name for name in engines if name in options.engines]
+            if names:
+                number, file = str(answer.number), os.path.join(folder, source.name)
+                place = os.path.join(folder, f"{source.stems[1]}-{number}-{names[0]}")
+                asked = [f"--{source.option}", number, "--engine", ",".join(names),
+                         "--timeout", f"{seconds:g}", "--keep", place, file]
+                yield shlex.join(["aigprove", "-q", *given, *asked])

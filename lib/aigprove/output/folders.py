@@ -1,11 +1,16 @@
-"""What is kept of several questions: a folder with the files that were asked about, and for each question a folder with a script; one
-script runs all of them."""
+"""What is kept of several questions.
+
+That is a folder with the files that were asked about, and for each question a folder with a script;
+one script runs all of them."""
+from __future__ import annotations
+
 import os
 import threading
+from collections.abc import Iterable
 
+from aigprove.circuits.aiger import Fault
 from aigprove.output.evidence import HEAD, Evidence, limited
-from aigprove.processes import files
-from aigprove.processes.programs import Fault
+from aigprove.processes.sealed import Sealed
 
 PART = """# A folder in this one, whose script shows again what it has.
 part() {
@@ -15,20 +20,18 @@ part() {
 """
 
 
-class Kept(Evidence):
+class EvidenceFolder(Evidence):
     """Such a folder, which may be there already: what is in it stays."""
 
-    def __init__(self, folder, limit=None):
-        self.folder, self.lines, self.lock = folder, [HEAD, PART, *limited(limit)], threading.Lock()
+    def __init__(self, folder: str, limit: int | None = None) -> None:
+        self.folder, self.lines = folder, [HEAD, PART, *limited(limit)]
+        self.lock = threading.Lock()
         os.makedirs(folder, exist_ok=True)
         # What is in it, and the folders that were made in it.
-        self.names, self.made = set(os.listdir(folder)), []
+        self.names, self.made = set(os.listdir(folder)), list[str]()
 
-    def path(self, name):
-        return os.path.join(self.folder, name)
-
-    def new(self, stem):
-        """A name for a new folder in it."""
+    def new(self, stem: str) -> str:
+        """Returns a name for a new folder in it."""
         with self.lock:
             names = [stem, *(f"{stem}-{i}" for i in range(1, len(self.names) + 2))]
             name = next(it for it in names if it not in self.names)
@@ -36,19 +39,20 @@ class Kept(Evidence):
             self.made.append(name)
             return name
 
-    def put(self, name, file):
-        """Puts a sealed file into the folder, where it isn't there yet."""
+    def put(self, name: str, file: Sealed) -> None:
+        """Puts a sealed file into the folder, if it isn't there yet."""
         if name in self.names:
             with open(self.path(name), "rb") as there:
-                if there.read() != file.bytes():
+                if there.read() != file.data():
                     raise Fault(f"{self.path(name)} is another file than what is asked about")
         super().put(name, file)
 
-    def end(self, lines):
-        """Writes the script, which runs those of the folders that were made, and prints these lines."""
+    def end_with(self, lines: Iterable[str]) -> None:
+        """Writes the script, which runs those of the folders that were made.
+
+        It prints these lines."""
         for part in self.made:
             self.add("part", part)
         for line in lines:
             self.add("echo", line)
-        files.write(self.path("check.sh"), (line.encode() for line in self.lines))
-        os.chmod(self.path("check.sh"), 0o755)
+        self.end("wb")

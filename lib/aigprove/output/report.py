@@ -1,14 +1,18 @@
-"""What became of each property: an answer, and how answers are printed and written for other programs."""
+"""What became of each property, and how that is printed and written for other programs."""
+from __future__ import annotations
+
 import dataclasses
 import json
 import xml.etree.ElementTree as xml
+from typing import Any
 
 from aigprove import VERSION
+from aigprove.circuits.witness import Witness
+from aigprove.output.messages import escaped
 from aigprove.output.signals import word
-from aigprove.processes.programs import escaped
 
-# What kinds of property there are, by the letter of their numbers, and how their answers are spelled: none at any step, one at a step, and
-# neither.
+# What kinds of property there are, by the letter of their numbers, and how their answers are
+# spelled: none at any step, one at a step, and neither.
 KINDS = {"b": "assertion", "j": "justice", "c": "cover"}
 SPELLED = {
     "b": {"holds": "holds", "reached": "fails at step {step}", "open": "undecided"},
@@ -30,10 +34,12 @@ CASES = {
 
 
 @dataclasses.dataclass
-class Answer:
-    """A property: the letter of its kind, its number, its name and its place in the source, if it has these; and what is known of it: how
-    many steps from 0 on don't reach it, whether none does, or the witness of a run that does, which engine found that, after how many
-    seconds, and the folders of what shows it."""
+class PropertyAnswer:
+    """A property: the letter of its kind, its number, and its name and place, if it has these.
+
+    And what is known of it: how many steps from 0 on don't reach it, whether none does, or the
+    witness of a run that does, which engine found that, after how many seconds, and the folders of
+    what shows it."""
 
     letter: str
     number: int
@@ -41,44 +47,56 @@ class Answer:
     place: str = ""
     steps: int = 0
     is_safe: bool = False
-    told: object = None
+    trace: Witness | None = None
     engine: str = ""
-    seconds: float = None
-    parts: list = dataclasses.field(default_factory=list)
+    seconds: float | None = None
+    parts: list[str] = dataclasses.field(default_factory=list)
 
     @property
-    def is_answered(self):
-        return self.is_safe or self.told is not None
+    def is_answered(self) -> bool:
+        """Whether it is known that a step reaches it, or that none does."""
+        return self.is_safe or self.trace is not None
 
     @property
-    def state(self):
-        return "reached" if self.told else "holds" if self.is_safe else "open"
+    def state(self) -> str:
+        """Which of the answers it has."""
+        return "reached" if self.trace else "holds" if self.is_safe else "open"
 
     @property
-    def step(self):
-        """The step at which it is reached, or up to which it isn't; None where there is no such step."""
-        return len(self.told.steps) - 1 if self.told else None if self.is_safe or not self.steps else self.steps - 1
+    def step(self) -> int | None:
+        """The step at which it is reached, or up to which it isn't, if there is such a step."""
+        if self.trace:
+            return len(self.trace.steps) - 1
+        return None if self.is_safe or not self.steps else self.steps - 1
 
-    def take(self, told, engine, seconds):
-        """Takes that it isn't reached, or a run that reaches it, where there was no answer or a longer run."""
-        if not self.is_answered or told and self.told and len(told.steps) < len(self.told.steps):
-            self.is_safe, self.told, self.engine, self.seconds = told is None, told, engine, seconds
+    def take(self, trace: Witness | None, engine: str, seconds: float | None) -> None:
+        """Takes that it isn't reached, or a run that reaches it.
 
-    def text(self):
-        """The answer in words."""
-        count = len(self.told.steps) if self.told else 0
-        spelled = SPELLED[self.letter][self.state].format(step=self.step, steps=f"{count} step{'s' * (count != 1)}")
-        return f"{spelled} up to step {self.step}" if self.state == "open" and self.step is not None else spelled
+        That counts if there was no answer or a longer run."""
+        is_shorter = trace and self.trace and len(trace.steps) < len(self.trace.steps)
+        if not self.is_answered or is_shorter:
+            self.is_safe, self.trace = trace is None, trace
+            self.engine, self.seconds = engine, seconds
 
-    def cells(self, is_empty):
-        """The cells of its row."""
+    def text(self) -> str:
+        """Returns the answer in words."""
+        count = len(self.trace.steps) if self.trace else 0
+        steps = f"{count} step{'s' * (count != 1)}"
+        spelled = SPELLED[self.letter][self.state].format(step=self.step, steps=steps)
+        is_partial = self.state == "open" and self.step is not None
+        return f"{spelled} up to step {self.step}" if is_partial else spelled
+
+    def cells(self, is_empty: bool) -> list[str]:
+        """Returns the cells of its row."""
+        step = "-" if self.step is None else str(self.step)
         seconds = "-" if self.seconds is None else f"{self.seconds:.1f}"
         said = self.text() + " (empty)" * (is_empty and self.state == "holds")
-        shown = [f"{self.letter}{self.number}", self.name and word(self.name), escaped(self.place), said]
-        return [*(cell or "-" for cell in shown), "-" if self.step is None else str(self.step), self.engine or "-", seconds]
+        name = word(self.name) if self.name else ""
+        shown = [f"{self.letter}{self.number}", name, escaped(self.place), said]
+        return [*(cell or "-" for cell in shown), step, self.engine or "-", seconds]
 
-    def fields(self, is_empty):
-        """Its fields for other programs."""
+    def fields(self, is_empty: bool) -> dict[str, object]:
+        """Returns its fields for other programs."""
         return {
             "property": f"{self.letter}{self.number}",
             "number": self.number,
@@ -96,65 +114,77 @@ class Answer:
 
 @dataclasses.dataclass
 class Report:
-    """All answers about a file, and what is known of its assumptions: how many there are, the last step up to which they were seen to be
-    met, the first at which they can't be, and the line that says so."""
+    """All answers about a file, and what is known of its assumptions.
+
+    That is how many there are, the last step up to which they were seen to be met, the first at
+    which they can't be, and the line that says so."""
 
     path: str
-    answers: list
+    answers: list[PropertyAnswer]
     constraints: int = 0
-    met: int = None
-    unmet: int = None
+    met: int | None = None
+    unmet: int | None = None
     seconds: float = 0
     line: str = ""
 
     @property
-    def is_empty(self):
+    def is_empty(self) -> bool:
+        """Whether no run meets the assumptions from a step on."""
         return self.unmet is not None
 
-    def status(self):
-        """What follows of all assertions and justice properties: that one fails, or has a fair run, that none does, or neither."""
-        states = {answer.state for answer in self.answers if answer.letter != "c"}
-        return "fails" if "reached" in states else "holds" if states == {"holds"} and not self.is_empty else "undecided"
+    def status(self) -> str:
+        """Returns what follows of all assertions and justice properties.
 
-    def table(self):
-        """The lines of the table."""
+        That is that one fails, or has a fair run, that none does, or neither."""
+        states = {answer.state for answer in self.answers if answer.letter != "c"}
+        if "reached" in states:
+            return "fails"
+        return "holds" if states == {"holds"} and not self.is_empty else "undecided"
+
+    def table(self) -> list[str]:
+        """Returns the lines of the table."""
         rows = [TITLES, *(answer.cells(self.is_empty) for answer in self.answers)]
         widths = [max(map(len, column)) for column in zip(*rows)]
-        return ["  ".join(cell.ljust(width) for cell, width in zip(row, widths)).rstrip() for row in rows]
+        return ["  ".join(cell.ljust(width) for cell, width in zip(row, widths)).rstrip()
+                for row in rows]
 
-    def json(self):
-        """Its text in JSON."""
-        made = {
+    def json(self) -> str:
+        """Returns its text in JSON."""
+        assumptions = {"count": self.constraints, "met_up_to": self.met, "unmet_from": self.unmet}
+        made: dict[str, Any] = {
             "version": VERSION,
             "file": self.path,
             "answer": self.status(),
             "seconds": round(self.seconds, 3),
-            "assumptions": {"count": self.constraints, "met_up_to": self.met, "unmet_from": self.unmet},
+            "assumptions": assumptions,
             "properties": [answer.fields(self.is_empty) for answer in self.answers],
         }
         return json.dumps(made, indent=1) + "\n"
 
-    def junit(self):
-        """Its text as JUnit's XML: what isn't decided, or is empty, is skipped."""
-        suite = xml.Element("testsuite", name=escaped(self.path), time=f"{self.seconds:.3f}", errors="0")
-        counts = {"failure": 0, "skipped": 0}
-        for answer in self.answers:
-            if kind := self.put_case(suite, answer):
-                counts[kind] += 1
-        for name, count in [("tests", len(self.answers)), ("failures", counts["failure"]), ("skipped", counts["skipped"])]:
-            suite.set(name, str(count))
+    def junit(self) -> str:
+        """Returns its text as JUnit's XML: what isn't decided, or is empty, is skipped."""
+        suite = xml.Element("testsuite", name=escaped(self.path), time=f"{self.seconds:.3f}",
+                            errors="0")
+        kinds = [self.put_case(suite, answer) for answer in self.answers]
+        suite.set("tests", str(len(self.answers)))
+        suite.set("failures", str(kinds.count("failure")))
+        suite.set("skipped", str(kinds.count("skipped")))
         every = xml.Element("testsuites")
         every.append(suite)
         xml.indent(every)
-        return xml.tostring(every, "unicode", xml_declaration=False) + "\n"
+        return str(xml.tostring(every, "unicode", xml_declaration=False)) + "\n"
 
-    def put_case(self, suite, answer):
-        """Puts an answer's case into the suite; which kind of entry says that it didn't pass, if one does."""
+    def put_case(self, suite: xml.Element, answer: PropertyAnswer) -> str | None:
+        """Puts an answer's case into the suite.
+
+        Returns which kind of entry says that it didn't pass, if one does."""
         name = escaped(" ".join(filter(None, [f"{answer.letter}{answer.number}", answer.name])))
-        case = xml.SubElement(suite, "testcase", classname=escaped(self.path), name=name, time=f"{answer.seconds or 0:.3f}")
+        case = xml.SubElement(suite, "testcase", classname=escaped(self.path), name=name,
+                              time=f"{answer.seconds or 0:.3f}")
         is_empty = self.is_empty and answer.state == "holds"
         kind = "skipped" if is_empty else CASES.get((answer.letter, answer.state))
         if kind:
-            said = answer.text() + f" (the assumptions can't be met from step {self.unmet} on)" * is_empty
-            xml.SubElement(case, kind, message=said).text = escaped(answer.place) or None
+            unmet = f" (the assumptions can't be met from step {self.unmet} on)"
+            message = answer.text() + unmet * is_empty
+            xml.SubElement(case, kind, message=message).text = escaped(answer.place) or None
         return kind

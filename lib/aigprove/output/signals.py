@@ -3,11 +3,16 @@
 A name is printed as it is where it is a plain word, and else as a JSON string, behind its place (i0, l0) where another signal has
 it too; a signal without a name is printed by its place. The bits `d[0]` to `d[7]` are printed as `d=8'hff`, in base two where one
 doesn't matter: x is printed as -."""
+from __future__ import annotations
+
 import collections
 import itertools
 import json
 import re
+from collections.abc import Iterable, Iterator, Mapping, Sequence
 
+from aigprove.circuits.aiger import Circuit, decoded, encoded
+from aigprove.circuits.witness import Witness
 from aigprove.output.waves import grouped, words
 
 # How many steps that are equal are printed as one line, at least; and how many lines of a run are printed, at its begin and its end.
@@ -17,12 +22,12 @@ MOST = 20
 PLAIN = re.compile(r"(?![ilb][0-9]+(:|$))[!#-<>-\[\]-~]+")
 
 
-def word(name):
+def word(name: str) -> str:
     """A name as one word, which is no place."""
     return name if PLAIN.fullmatch(name) else json.dumps(name)
 
 
-def number(bits):
+def number(bits: Sequence[str]) -> str:
     """A number of bits, the lowest first."""
     if len(bits) == 1 or set(bits) == {"x"}:
         return bits[0].replace("x", "-")
@@ -31,41 +36,41 @@ def number(bits):
     return f"{len(bits)}'h{int(''.join(reversed(bits)), 2):0{(len(bits) + 3) // 4}x}"
 
 
-class Shown:
+class Signals:
     """How the signals of a circuit are printed, each in its own way."""
 
-    def __init__(self, circuit):
-        self.names = {f"{letter}{i}": name.decode("utf-8", "surrogateescape") for (letter, i), name in circuit.names.items()}
+    def __init__(self, circuit: Circuit) -> None:
+        self.names = {f"{letter}{i}": decoded(name) for (letter, i), name in circuit.names.items()}
         self.times = collections.Counter(name for place, name in self.names.items() if place[0] in "il")
         if circuit.header.is_old:
             self.names.update({"b" + place[1:]: name for place, name in self.names.items() if place[0] == "o"})
         self.buses = {"i": self.find_buses("i", len(circuit.inputs)), "l": self.find_buses("l", len(circuit.latches))}
         # The places of what isn't printed.
-        self.hidden = set()
+        self.hidden: set[str] = set()
 
-    def find_buses(self, letter, count):
+    def find_buses(self, letter: str, count: int) -> dict[str, list[int]]:
         """The places of the bits of each word of one kind, whose name is a plain word."""
-        own = [self.names.get(f"{letter}{i}", "").encode("utf-8", "surrogateescape") for i in range(count)]
-        found = {name.decode("utf-8", "surrogateescape"): places for name, places in words(own).items()}
+        own = [encoded(self.names.get(f"{letter}{i}", "")) for i in range(count)]
+        found = {decoded(name): places for name, places in words(own).items()}
         return {name: places for name, places in found.items() if PLAIN.fullmatch(name) and self.is_single(name, letter, places)}
 
-    def is_single(self, name, letter, places):
+    def is_single(self, name: str, letter: str, places: Iterable[int]) -> bool:
         """Whether no other input or latch has the name of a word or of one of its bits."""
         return self.times[name] == 0 and all(self.times[self.names[f"{letter}{i}"]] == 1 for i in places)
 
-    def signal(self, place):
+    def signal(self, place: str) -> str:
         """How an input or a latch is printed."""
         name = self.names.get(place)
         if name is None:
             return place
         return word(name) if self.times[name] == 1 else f"{place}:{json.dumps(name)}"
 
-    def place(self, letter, position):
+    def place(self, letter: str, position: int) -> str:
         """How an output or a bad state property is printed."""
         place = f"{letter}{position}"
         return " ".join([place, *(word(self.names[place]) for _ in range(place in self.names))])
 
-    def values(self, letter, values, places=None):
+    def values(self, letter: str, values: Sequence[str], places: set[int] | None = None) -> list[str]:
         """The values of inputs or latches: of all, or of those at these places."""
         shown = []
         for name, own in grouped(len(values), self.buses[letter]):
@@ -74,22 +79,22 @@ class Shown:
                 shown.append(f"{name}={number(bits)}" if name else f"{self.signal(f'{letter}{own[0]}')}={number(bits)}")
         return shown
 
-    def lines(self, told, latches, changes):
+    def lines(self, trace: Witness, latches: set[int], changes: Mapping[int, Sequence[str]]) -> Iterator[str]:
         """The lines of a run: the values of these latches at first, and for each step the inputs, and what else changed, behind a bar."""
-        yield spaced("start:", *self.values("l", told.start, latches))
-        steps, count = [], len(told.steps[0])
+        yield spaced("start:", *self.values("l", trace.start, latches))
+        steps, count = [], len(trace.steps[0])
         is_short = len(grouped(count, self.buses["i"])) <= MOST
-        mattering = None if is_short else {i for i in range(count) if any(row[i] != "x" for row in told.steps)}
-        for t, inputs in enumerate(told.steps):
+        mattering = None if is_short else {i for i in range(count) if any(row[i] != "x" for row in trace.steps)}
+        for t, inputs in enumerate(trace.steps):
             steps.append(spaced(*self.values("i", inputs, mattering), *["|", *changes.get(t, [])] * bool(changes.get(t))))
         yield from folded(steps)
 
 
-def spaced(*words):
+def spaced(*words: str) -> str:
     return " ".join(words)
 
 
-def folded(steps):
+def folded(steps: Iterable[str]) -> Iterator[str]:
     """A line for each step, or for several that are equal; of many lines the first and the last."""
     lines, t = [], 0
     for text, own in itertools.groupby(steps):

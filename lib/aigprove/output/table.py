@@ -1,150 +1,208 @@
 """The table of all properties: what is asked, or gathered, and what is printed and written of it."""
+from __future__ import annotations
+
 import concurrent.futures
 import os
 import resource
 import time
+from collections.abc import Callable, Iterable, Sequence
 
-from aigprove.circuits.aiger import LIMIT
+from aigprove.circuits.aiger import Fault
+from aigprove.circuits.witness import Witness
 from aigprove.designs.front_ends import COVER, LIVE
-from aigprove.engines.portfolio import FAILED, OPEN, SAFE, TICK, UNSAFE, header_of
-from aigprove.engines.separate import Fair, show_progress
-from aigprove.engines.shared import Each
+from aigprove.engines.answers import FAILED, OPEN, SAFE, UNSAFE
+from aigprove.engines.portfolio import TICK
+from aigprove.engines.problem import header_of
+from aigprove.engines.separate import SeparateProperties
+from aigprove.engines.shared import SharedProperties
+from aigprove.options.options import Options
 from aigprove.output import commands
 from aigprove.output.evidence import ABOVE, Evidence
-from aigprove.output.folders import Kept
+from aigprove.output.folders import EvidenceFolder
 from aigprove.output.gather import Gathered
+from aigprove.output.messages import say, show_progress
 from aigprove.output.report import Report
-from aigprove.output.signals import Shown
-from aigprove.processes import files
-from aigprove.processes.programs import Fault, say
+from aigprove.output.signals import Signals
+from aigprove.processes.files import write
+from aigprove.questions.assumptions import SECONDS, Assumptions
+from aigprove.questions.bad_states import BadStates, Covers
+from aigprove.questions.checker import Checker
 from aigprove.questions.justice import Justices, lives
-from aigprove.questions.properties import Within
-from aigprove.questions import assumptions
+from aigprove.questions.properties import FileAbove
 from aigprove.questions.solver import Solver
-from aigprove.questions.source import Covers, Source
+from aigprove.questions.target import Target
 
 STATUS = {"fails": UNSAFE, "holds": SAFE, "undecided": OPEN}
 
 
 class Table:
-    """What the words of a command line ask of each property of a file, of each justice property, and of each cover of a design."""
+    """What a command line asks of each property of a file.
 
-    def __init__(self, words, programs, judge, above):
-        self.words, self.programs, self.judge, self.above, self.begun = words, programs, judge, above, time.monotonic()
+    Those are its bad states, its justice properties, and the covers of a design."""
+
+    def __init__(self, options: Options, checker: Checker, above: str) -> None:
+        self.options, self.checker, self.above = options, checker, above
+        self.begun = time.monotonic()
         # Each property has files in memory.
         most = resource.getrlimit(resource.RLIMIT_NOFILE)[1]
         resource.setrlimit(resource.RLIMIT_NOFILE, (most, most))
-        first = Source(words, above, judge)
-        self.sources = [first] if first.answers() else []
-        self.sources += [Covers(words, above, judge, first.given)] if first.has_later({COVER}) else []
-        fair = [Justices(first.given)] if first.given.header().justice else []
-        fair += [lives(words, above, judge, first.given)] if first.has_later({LIVE}) else []
-        self.sources += fair
-        if not self.sources:
-            raise Fault(f"{first.path}: {first.empty}")
-        asked = [first] * bool(first.answers()) + [source for source in fair if source.given.design]
-        self.lines = [] if words.quiet else [*([] if fair else first.warnings()), *(line for it in asked or [first] for line in it.about())]
-        self.is_there = bool(words.keep) and os.path.lexists(words.keep)
-        self.kept = Kept(words.keep, words.limit) if words.keep else None
-        for source in self.sources if self.kept else []:
-            source.keep(self.kept)
-        self.eaches = [(Fair if source in fair else Each)(words, programs, judge, above, source, self.kept) for source in self.sources]
-        self.answers = [answer for each in self.eaches for answer in each.answers]
+        self.first = BadStates(options, above, checker)
+        self.fair = self.justices()
+        self.sources = self.all_sources()
+        self.lines = [] if options.quiet else self.heading()
+        self.is_there = bool(options.keep) and os.path.lexists(options.keep or "")
+        self.folder = EvidenceFolder(options.keep, options.limit) if options.keep else None
+        for source in self.sources if self.folder else []:
+            if self.folder:
+                source.keep(self.folder)
+        self.parts = list(map(self.properties, self.sources))
+        self.answers = [answer for part in self.parts for answer in part.answers]
         header = header_of(self.sources[0].asked)
-        self.report = Report(first.path, self.answers, header.constraints)
+        self.report = Report(self.first.path, self.answers, header.constraints)
 
-    def run(self):
-        """Does what is asked, and gives the exit status."""
-        if self.words.tasks:
-            for line in commands.lines(self.words, self.sources, self.answers):
+    def justices(self) -> list[Justices]:
+        """Returns the justice properties of the file, and the liveness assertions of a design."""
+        first = self.first.given
+        fair = [Justices(first)] if first.header().justice else []
+        if self.first.has_later({LIVE}):
+            fair.append(lives(self.options, self.above, self.checker, first))
+        return fair
+
+    def all_sources(self) -> Sequence[BadStates | Justices]:
+        """Returns what has properties."""
+        sources: list[BadStates | Justices] = [self.first] if self.first.answers() else []
+        if self.first.has_later({COVER}):
+            sources.append(Covers(self.options, self.above, self.checker, self.first.given))
+        sources += self.fair
+        if not sources:
+            raise Fault(f"{self.first.path}: {self.first.empty}")
+        return sources
+
+    def heading(self) -> list[str]:
+        """Returns the lines before the table."""
+        asked: list[Target] = [self.first] if self.first.answers() else []
+        asked += [source for source in self.fair if source.given.design]
+        warnings = [] if self.fair else list(self.first.warnings())
+        return warnings + [line for source in asked or [self.first] for line in source.about()]
+
+    def properties(self, source: BadStates | Justices) -> SeparateProperties:
+        """Returns the properties of a source, which are asked about."""
+        if isinstance(source, Justices):
+            return SeparateProperties(self.options, self.checker, self.above, source, self.folder)
+        return SharedProperties(self.options, self.checker, self.above, source, self.folder)
+
+    def run(self) -> int:
+        """Does what is asked, and returns the exit status."""
+        if self.options.tasks:
+            for line in commands.lines(self.options, self.sources, self.answers):
                 print(line)
             return OPEN
-        folder = self.words.gather or (self.words.keep if self.is_there else None)
-        if folder:
-            gathered = Gathered(folder, self.eaches, self.judge, self.judge.limit or LIMIT)
-            gathered.take(self.words.jobs)
-            if self.kept:
-                gathered.keep(self.kept)
+        self.gather()
         try:
-            self.ask(self.eaches if not self.words.gather else [])
+            self.ask(self.parts if not self.options.gather else [])
         except (KeyboardInterrupt, SystemExit):
-            # What was answered by then is told.
+            # What was answered by then is printed.
             self.print()
             raise
         self.look_at_assumptions()
         self.print()
         self.write()
-        if all(each.said for each in self.eaches) and not any(answer.is_answered or answer.steps for answer in self.answers):
+        is_known = any(answer.is_answered or answer.steps for answer in self.answers)
+        if all(part.said for part in self.parts) and not is_known:
             return FAILED
         return STATUS[self.report.status()]
 
-    def ask(self, eaches):
+    def gather(self) -> None:
+        """Takes what is kept in a folder."""
+        folder = self.options.gather or (self.options.keep if self.is_there else None)
+        if folder:
+            gathered = Gathered(folder, self.parts, self.checker)
+            gathered.take(self.options.jobs)
+            if self.folder:
+                gathered.keep(self.folder)
+
+    def ask(self, parts: Sequence[SeparateProperties]) -> None:
         """Asks about what has no answer yet, and shows how many have, on a terminal."""
-        with concurrent.futures.ThreadPoolExecutor(max(len(eaches), 1)) as pool:
-            futures = [pool.submit(each.run) for each in eaches]
+        with concurrent.futures.ThreadPoolExecutor(max(len(parts), 1)) as pool:
+            futures = [pool.submit(part.run) for part in parts]
             try:
                 while concurrent.futures.wait(futures, TICK).not_done:
                     count = sum(answer.is_answered for answer in self.answers)
-                    show_progress(f"{count} of {len(self.answers)} answered: {time.monotonic() - self.begun:.0f} s")
+                    seconds = time.monotonic() - self.begun
+                    show_progress(f"{count} of {len(self.answers)} answered: {seconds:.0f} s")
             finally:
-                for each in eaches:
-                    each.stop()
+                for part in parts:
+                    part.stop()
                 show_progress()
         for future in futures:
             future.result()
 
-    def look_at_assumptions(self):
-        """Looks up to which step the assumptions can be met, where there are some and a property holds."""
+    def look_at_assumptions(self) -> None:
+        """Looks up to which step the assumptions can be met, if there are some.
+
+        That is done if a property holds."""
         if not self.report.constraints or not any(answer.is_safe for answer in self.answers):
             return
-        source = self.sources[0]
-        found = assumptions.Assumptions(Within(source, ABOVE), self.judge)
-        try:
-            if not self.words.solver:
-                raise Fault("cadical is not installed")
-            solver = Solver(self.words.solver, self.programs, self.judge, self.above, self.words.takes_turns)
-            found.look(solver, max(answer.steps for answer in self.answers), time.monotonic() + assumptions.SECONDS)
-        except Fault as why:
-            say(f"assumptions: {why}")
-        if self.kept:
-            name = self.kept.new("assumptions")
-            evidence = Evidence(self.kept.path(name), self.words.limit)
+        found = self.assumptions()
+        if self.folder:
+            evidence = Evidence(self.folder.path(self.folder.new("assumptions")),
+                                self.options.limit)
             found.keep(evidence)
             evidence.end()
         self.report.met, self.report.unmet, self.report.line = found.met, found.unmet, found.line()
 
-    def print(self):
+    def assumptions(self) -> Assumptions:
+        """Returns what is known of the assumptions."""
+        solver = self.options.solver
+        found = Assumptions(FileAbove(self.sources[0], ABOVE), self.checker)
+        try:
+            if not solver.words:
+                raise Fault("cadical is not installed")
+            asked = Solver(solver.words, self.checker, self.above, solver.takes_turns)
+            least = max(answer.steps for answer in self.answers)
+            found.look(asked, least, time.monotonic() + SECONDS)
+        except Fault as why:
+            say(f"assumptions: {why}")
+        return found
+
+    def print(self) -> None:
         """Prints the table, and ends the script of what is kept."""
         self.report.seconds = time.monotonic() - self.begun
         lines = [*self.report.table(), *([self.report.line] if self.report.line else [])]
-        if self.kept:
-            self.kept.end(lines)
+        if self.folder:
+            self.folder.end_with(lines)
         for line in [*self.lines, *lines]:
             print(line)
 
-    def write(self):
+    def write(self) -> None:
         """Writes what is wanted of the table."""
-        for name, text in [(self.words.json, self.report.json), (self.words.junit, self.report.junit)]:
+        options, report = self.options, self.report
+        for name, text in [(options.json, report.json), (options.junit, report.junit)]:
             if name:
-                files.write(name, [text().encode()])
-        for folder, suffix, call in [(self.words.witness, "witness", self.witness), (self.words.vcd, "vcd", self.dump)]:
-            if folder:
-                self.write_runs(folder, suffix, call)
+                write(name, [text().encode()])
+        if options.witness:
+            self.write_runs(options.witness, "witness", witness_of)
+        if options.vcd:
+            self.write_runs(options.vcd, "vcd", dump_of)
 
-    def write_runs(self, folder, suffix, call):
+    def write_runs(self, folder: str, suffix: str,
+                   call: Callable[[Target, Witness], Iterable[bytes]]) -> None:
         """Writes a file for each run into a folder."""
         os.makedirs(folder, exist_ok=True)
-        for each in self.eaches:
-            for answer in each.answers:
-                if answer.told:
+        for part in self.parts:
+            for answer in part.answers:
+                if answer.trace:
                     path = os.path.join(folder, f"{answer.letter}{answer.number}.{suffix}")
-                    files.write(path, call(each.sources[answer.number], answer.told))
+                    write(path, call(part.sources[answer.number], answer.trace))
 
-    def witness(self, source, told):
-        return [source.of_file(told).text().encode()]
 
-    def dump(self, source, told):
-        """A value change dump, which yosys makes of a design, where it can."""
-        circuit = source.circuit()
-        list(source.lines(Shown(circuit), circuit, told))
-        return (f"{line}\n".encode() for line in source.dump(circuit, told))
+def witness_of(source: Target, trace: Witness) -> Iterable[bytes]:
+    """Returns the text of a run."""
+    return [source.of_file(trace).text().encode()]
+
+
+def dump_of(source: Target, trace: Witness) -> Iterable[bytes]:
+    """Returns a value change dump, which yosys makes of a design, if it can."""
+    circuit = source.circuit()
+    list(source.lines(Signals(circuit), circuit, trace))
+    return (f"{line}\n".encode() for line in source.dump(circuit, trace))

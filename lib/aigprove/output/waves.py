@@ -1,20 +1,26 @@
 """Runs as value change dumps (VCD, IEEE 1364), which wave viewers such as gtkwave read."""
+from __future__ import annotations
+
 import collections
 import itertools
 import re
+from collections.abc import Iterable, Iterator, Mapping, Sequence
+from typing import TypeVar
 
-from aigprove.circuits.aiger import KINDS
-from aigprove.circuits.simulation import run
+from aigprove.circuits.aiger import KINDS, Circuit
+from aigprove.circuits.simulation import Values, run
 
+T = TypeVar("T", str, bytes)
+Words = dict[bytes, list[int]]
 SIMPLE_NAME = re.compile(rb"[A-Za-z_][A-Za-z0-9_$]*(\[[0-9]+\])?")
 BIT = re.compile(rb"(.+)\[(0|[1-9][0-9]{0,5})\]", re.DOTALL)
 PATH = re.compile(rb"((?:[A-Za-z_][A-Za-z0-9_$]*\.)+)(.+)", re.DOTALL)
 
 
-def words(names):
+def words(names: Sequence[bytes]) -> Words:
     """The places of the bits of each word among names, the lowest bit first: `d[0]`, `d[1]` and so on, at least two, each once,
     where nothing else is named `d`."""
-    found, times = collections.defaultdict(dict), collections.Counter(names)
+    found, times = collections.defaultdict[bytes, dict[int, int]](dict), collections.Counter(names)
     for i, name in enumerate(names):
         bit = BIT.fullmatch(name)
         if bit and times[name] == 1:
@@ -26,21 +32,21 @@ def words(names):
     }
 
 
-def grouped(count, found):
+def grouped(count: int, found: Mapping[T, Sequence[int]]) -> list[tuple[T | None, Sequence[int]]]:
     """The name and the places of each of these words, where its lowest bit is, and no name and the place of what is in none."""
     starts = {places[0]: (name, places) for name, places in found.items()}
     inner = {i for places in found.values() for i in places[1:]}
     return [starts.get(i, (None, [i])) for i in range(count) if i not in inner]
 
 
-def reference(name):
+def reference(name: bytes) -> str:
     """A name as VCD has it: an identifier, or one that is escaped, of printable bytes."""
     if SIMPLE_NAME.fullmatch(name):
         return name.decode()
     return "\\" + "".join(chr(byte) if 33 <= byte <= 126 and byte != ord("%") else f"%{byte:02X}" for byte in name)
 
 
-def code(number):
+def code(number: int) -> str:
     """The identifier code of a signal, of the printable characters from ! on."""
     digits = chr(33 + number % 94)
     while number >= 94:
@@ -52,24 +58,24 @@ def code(number):
 class Variable:
     """A signal or a word: its code, its name, and its literals, the lowest bit first."""
 
-    def __init__(self, number, name, literals):
+    def __init__(self, number: int, name: bytes, literals: Sequence[int]) -> None:
         self.code, self.literals = code(number), literals
         path = PATH.fullmatch(name)
         self.scopes, self.name = (path[1].decode().split(".")[:-1], path[2]) if path else ([], name)
 
-    def declared(self):
+    def declared(self) -> str:
         """Its declaration."""
         width = len(self.literals)
         bits = f" [{width - 1}:0]" if width > 1 else ""
         return f"$var wire {width} {self.code} {reference(self.name)}{bits} $end"
 
-    def change(self, values):
+    def change(self, values: Values) -> str:
         """The line that says its value in a step."""
         bits = "".join(values[literal] for literal in reversed(self.literals))
         return bits + self.code if len(bits) == 1 else f"b{bits} {self.code}"
 
 
-def variables(circuit):
+def variables(circuit: Circuit) -> Iterator[tuple[str, list[Variable]]]:
     """The variables of each kind: its words, each in the place of its lowest bit, and its other signals."""
     numbers = itertools.count()
     for letter, group in itertools.groupby(circuit.signals(), key=lambda signal: signal[0]):
@@ -79,11 +85,12 @@ def variables(circuit):
         yield letter, [Variable(next(numbers), name or names[own[0]], [literals[i] for i in own]) for name, own in places]
 
 
-def declarations(made):
+def declarations(made: Iterable[Variable]) -> Iterator[str]:
     """The declarations of variables that stand in the order of their scopes, which are opened and closed between them."""
-    opened = []
+    opened: list[str] = []
     for it in made:
-        shared = sum(1 for _ in itertools.takewhile(lambda pair: pair[0] == pair[1], zip(opened, it.scopes)))
+        pairs = list(zip(opened, it.scopes))
+        shared = next((i for i, (own, other) in enumerate(pairs) if own != other), len(pairs))
         yield from ["$upscope $end"] * (len(opened) - shared)
         yield from (f"$scope module {name} $end" for name in it.scopes[shared:])
         yield it.declared()
@@ -91,7 +98,7 @@ def declarations(made):
     yield from ["$upscope $end"] * len(opened)
 
 
-def dump(circuit, state, inputs, loop=None):
+def dump(circuit: Circuit, state: Sequence[str], inputs: Sequence[Sequence[str]], loop: int | None = None) -> Iterator[str]:
     """The lines of the value change dump. Of a run that comes again and again from a step on, the signal `loop` is 1 from there on."""
     made = list(variables(circuit))
     mark = code(sum(len(own) for _, own in made))
@@ -104,7 +111,7 @@ def dump(circuit, state, inputs, loop=None):
     if loop is not None:
         yield from ["$scope module run $end", f"$var wire 1 {mark} loop $end", "$upscope $end"]
     yield "$enddefinitions $end"
-    last = {}
+    last: dict[str, str] = {}
     for t, values in enumerate(run(circuit, state, inputs)):
         now = {it.code: it.change(values) for _, own in made for it in own}
         if loop is not None:

@@ -1,11 +1,14 @@
 """Files that were named: what is read is copied in blocks to where nobody can write it, and unpacked there, up to a limit."""
+from __future__ import annotations
+
 import gzip
 import os
 import stat
 import zlib
+from collections.abc import Iterable
 
 from aigprove.circuits.aiger import LIMIT, Fault
-from aigprove.processes.programs import Sealed
+from aigprove.processes.sealed import Readable, Sealed
 
 # How many bytes a file may have for each node: the line of a gate has at most 33, and the rest is for lists, names and the comment.
 NODE = 64
@@ -15,10 +18,10 @@ PACKED = b"\x1f\x8b"
 class Limited:
     """A file of which no more than so many bytes are read."""
 
-    def __init__(self, file, path, most):
+    def __init__(self, file: Readable, path: str, most: int) -> None:
         self.file, self.path, self.most, self.left = file, path, most, most
 
-    def read(self, size):
+    def read(self, size: int) -> bytes:
         data = self.file.read(size)
         self.left -= len(data)
         if self.left < 0:
@@ -26,7 +29,7 @@ class Limited:
         return data
 
 
-def sealed(path, limit=None):
+def sealed(path: str, limit: int | None = None) -> Sealed:
     """A sealed copy of a file, or of what gzip packed there: of a regular file or a pipe, with so many nodes at most."""
     mode, most = os.stat(path).st_mode, NODE * max(limit or LIMIT, LIMIT)
     if stat.S_ISCHR(mode) or stat.S_ISBLK(mode):
@@ -44,7 +47,7 @@ def sealed(path, limit=None):
     return found
 
 
-def write(path, pieces, mode="wb"):
+def write(path: str, pieces: Iterable[bytes], mode: str = "wb") -> None:
     """Writes pieces of bytes to a file."""
     try:
         with open(path, mode) as out:

@@ -1,75 +1,116 @@
-"""Whether the constraints of a file can be met at all: a run that meets them up to some step, or a step from which on none does."""
+"""Whether the constraints of a file can be met at all.
+
+That is a run that meets them up to some step, or a step from which on none does."""
+from __future__ import annotations
+
 import time
+from typing import TYPE_CHECKING
 
-from aigprove.circuits import aiger, witness
-from aigprove.processes.programs import Sealed
-from aigprove.questions.solver import Question
-from aigprove.questions.source import CLAIMS, Asked
+from aigprove.circuits.aiger import Circuit, Header, Lines
+from aigprove.circuits.witness import read
+from aigprove.processes.sealed import Sealed
+from aigprove.questions.checker import Checker, Claim, Question
+from aigprove.questions.solver import Solver
+from aigprove.questions.target import CLAIMS, Target
 
-# How many seconds further steps are looked at, and up to which at most, where no line is about later ones.
+if TYPE_CHECKING:
+    from aigprove.output.evidence import Evidence
+
+# How many seconds further steps are looked at, and up to which at most, if no line is about later
+# ones.
 SECONDS, MOST = 0.25, 1 << 12
 
 
-class Possible(Asked):
+class Possible(Target):
     """The file that is bad wherever a run that meets all constraints of another has come."""
 
     name = "possible.aag"
 
-    def __init__(self, source, judge):
-        self.asked = judge.made("possible", source.asked)
+    def __init__(self, source: Target, checker: Checker) -> None:
+        self.source, self.file = source, checker.made("possible", source.asked)
 
-    def unsolvable(self, question, proof):
-        """That no run meets the constraints up to a step, by a proof with another name than those about the file itself."""
-        return self.claim(CLAIMS[question.command][0].format(question.k), "refuted", [str(question.k), "unmet"], {"unmet": proof})
+    @property
+    def asked(self) -> Sealed:
+        return self.file
+
+    def circuit(self) -> Circuit:
+        return self.source.circuit()
+
+    def unsolvable(self, question: Question, proof: Sealed) -> Claim:
+        """Returns that no run meets the constraints up to a step.
+
+        The proof has another name than those about the file itself."""
+        line = CLAIMS[question.command][0].format(question.k)
+        return self.claim(line, "refuted", [str(question.k), "unmet"], {"unmet": proof})
 
 
 class Assumptions:
-    """The last step up to which the constraints of a file were seen to be met, and the first at which they can't be, where these are
-    known, with the claims that show it."""
+    """Up to which step the constraints of a file were seen to be met, and from which they can't.
 
-    def __init__(self, source, judge):
-        self.source, self.judge, self.met, self.unmet, self.claims = source, judge, None, None, {}
+    Either may be unknown. The claims show it."""
 
-    def look(self, solver, least, deadline):
-        """Looks at steps 1, 2, 4 and so on, for some seconds, and at least up to this step; where the constraints can't be met at one, for
-        the first such by halves."""
+    def __init__(self, source: Target, checker: Checker) -> None:
+        self.source, self.checker = source, checker
+        self.met: int | None = None
+        self.unmet: int | None = None
+        self.claims: dict[str, Claim] = {}
+
+    def look(self, solver: Solver, least: int, deadline: float) -> None:
+        """Looks at steps 1, 2, 4 and so on, for some seconds, and at least up to this step.
+
+        If the constraints can't be met at one, the first such is found by halves."""
         self.assuming, until = self.source.assuming(), time.monotonic() + SECONDS
-        self.possible = Possible(self.assuming, self.judge)
+        self.possible = Possible(self.assuming, self.checker)
         step = max(min(least, MOST), 1)
         while self.unmet is None and time.monotonic() < deadline:
             self.ask(solver, step)
             step *= 2
             if time.monotonic() > until or step > MOST:
                 break
-        while self.unmet is not None and self.unmet > (below := -1 if self.met is None else self.met) + 1:
+        while self.unmet is not None and self.unmet > (below := self.last_met()) + 1:
             self.ask(solver, (below + self.unmet) // 2)
 
-    def ask(self, solver, step):
+    def last_met(self) -> int:
+        """Returns the last step up to which they were seen to be met, or -1."""
+        return -1 if self.met is None else self.met
+
+    def ask(self, solver: Solver, step: int) -> None:
         """Asks whether a run meets the constraints up to a step, and has that checked."""
         question = Question("query", step)
         can_be_met, given = solver.ask(question, self.possible.asked)
         if can_be_met:
-            data = self.judge.witness(self.possible.asked, question, given)
-            header = aiger.Header(aiger.Lines(self.possible.asked.line(), "FILE"))
-            claim = self.possible.run(witness.read(aiger.Lines(data, "WITNESS"), header.latches, header.inputs), Sealed(data))
-            self.judge.check(claim)
-            self.met, self.claims["met"] = step, claim
+            data = self.checker.witness(self.possible.asked, question, given)
+            header = Header(Lines(self.possible.asked.line(), "FILE"))
+            trace = read(Lines(data, "WITNESS"), header.latches, header.inputs)
+            claim = self.possible.run(trace, Sealed(data))
         else:
             claim = self.possible.unsolvable(question, given)
-            self.judge.check(claim)
-            self.unmet, self.claims["unmet"] = step, claim
+        self.checker.check(claim)
+        self.claims["met" if can_be_met else "unmet"] = claim
+        if can_be_met:
+            self.met = step
+        else:
+            self.unmet = step
 
-    def keep(self, evidence, folder=""):
-        """Keeps what shows it, of a file that stands in a folder."""
-        if self.claims and self.assuming is not self.source:
-            self.assuming.keep(evidence)
+    def is_empty(self) -> bool:
+        """Returns whether no run meets the constraints from a step on."""
+        return self.unmet is not None
+
+    def keep(self, evidence: Evidence) -> None:
+        """Keeps what shows it."""
         if self.claims:
-            evidence.makes(self.possible.name, self.possible.asked, "possible", folder + self.assuming.name)
+            if self.assuming is not self.source:
+                self.assuming.keep(evidence)
+            possible = self.possible
+            evidence.makes(possible.name, possible.asked, "possible", self.assuming.name)
         for claim in self.claims.values():
             evidence.shows(claim)
         evidence.add("echo", self.line())
 
-    def line(self):
+    def line(self) -> str:
+        """Returns the line that says so."""
         if self.unmet is not None:
             return f"the assumptions can't be met from step {self.unmet} on: the answer is empty"
-        return "the assumptions were never seen to be met" if self.met is None else f"the assumptions can be met up to step {self.met}"
+        if self.met is None:
+            return "the assumptions were never seen to be met"
+        return f"the assumptions can be met up to step {self.met}"

@@ -1,63 +1,145 @@
-"""What is believed: lines that aigcheck prints of sealed files. Nothing else in the package says what a machine does."""
-import collections
-import tempfile
+"""aigcheck, the only program whose answers are believed.
 
-from aigprove.circuits.aiger import LIMIT, Circuit, Lines
-from aigprove.processes.programs import Fault, Sealed, ending
+Every statement about a circuit that aigprove prints is a line that aigcheck printed for a
+read-only copy of the file. Nothing else in the package says what a machine does."""
+from __future__ import annotations
+
+import dataclasses
+import tempfile
+from collections.abc import Mapping, Sequence
+from dataclasses import dataclass
+from typing import IO, Protocol
+
+from aigprove.circuits.aiger import LIMIT, Circuit, Fault, Lines
+from aigprove.output.messages import ending
+from aigprove.processes.scheduler import Task
+from aigprove.processes.sealed import Sealed, Word
 
 # How the first line of what aigcheck says ends where a proof doesn't follow.
 STEP = "proof step does not follow"
+# How many variables windows without repeated states may have to tell states apart.
+PAIRS = 1 << 22
+# How aigedit says that two files have other signals.
+MISFIT = "aigedit: files do not fit: "
 
 
-class Claim(collections.namedtuple("Claim", "line words files")):
-    """A line that aigcheck prints for these words, in which names stand for files, and these files."""
+@dataclass(frozen=True)
+class Claim:
+    """A line that aigcheck prints for these words, in which names stand for these files."""
+
+    line: str
+    words: Sequence[str]
+    files: Mapping[str, Sealed]
 
 
-class Judge:
-    """The programs that are believed, and what they say of files and of what engines answer."""
+class Query(Protocol):
+    """Clauses that our programs print: the command, its words behind FILE, and a name."""
 
-    def __init__(self, programs, aigtool, aigedit, aigcheck, limit=None):
+    @property
+    def command(self) -> str:
+        """The command of aigcheck that prints the clauses."""
+
+    @property
+    def name(self) -> str:
+        """The name of its proof among what is kept."""
+
+    @property
+    def words(self) -> Sequence[Word]:
+        """What stands behind the command and FILE."""
+
+
+@dataclass(frozen=True)
+class Question:
+    """Clauses that ask whether a bad state is reached.
+
+    That is at step k (`query`), at a step up to k (`bounded`), or by a window of k + 2 steps from
+    any state (`window`)."""
+
+    command: str
+    k: int
+    form: tuple[str, ...] = ()
+
+    @property
+    def name(self) -> str:
+        command = {"query": "step", "bounded": "steps", "window": "window"}[self.command]
+        return "-".join([command, str(self.k), *self.form])
+
+    @property
+    def words(self) -> Sequence[Word]:
+        return [self.k, *self.form]
+
+
+@dataclass(frozen=True)
+class Checker:
+    """Our programs, which run for a task."""
+
+    task: Task
+    # What prints a file's text form and the clauses of its queries, and the two programs.
+    texts: Sequence[str]
+    queries: Sequence[str]
+    aigedit: Sequence[str]
+    aigcheck: Sequence[str]
+    limit: int
+    # The proof that is the empty clause alone, and the one without a step.
+    empty_clause: Sealed
+    nothing: Sealed
+
+    @classmethod
+    def begin(cls, task: Task, aigtool: str, aigedit: str, aigcheck: str,
+              limit: int | None) -> Checker:
+        """Returns the programs at these paths, which take so many nodes if a number is given."""
         words = [] if limit is None else ["--limit", str(limit)]
-        self.programs, self.limit, self.aigedit, self.aigcheck = programs, limit or LIMIT, [aigedit, *words], [aigcheck, *words]
-        # What prints a file's text form and the clauses of its queries: aigtool, which takes no limit, or another in its place.
-        self.texts = [*self.aigedit, "reencode"] if words else [aigtool, "text"]
-        self.queries = [*self.aigcheck, "clauses"] if words else [aigtool, "query"]
-        # The proof that is the empty clause alone, and the one without a step.
-        self.empty_clause, self.nothing = Sealed(b"0\n"), Sealed(b"")
+        edit, check = [aigedit, *words], [aigcheck, *words]
+        # aigtool takes no limit, so that another does its work then.
+        texts = [*edit, "reencode"] if words else [aigtool, "text"]
+        queries = [*check, "clauses"] if words else [aigtool, "query"]
+        return cls(task, texts, queries, edit, check, limit or LIMIT, Sealed(b"0\n"), Sealed(b""))
 
-    def print(self, words, out):
+    def of(self, task: Task) -> Checker:
+        """Returns the same for another task."""
+        return dataclasses.replace(self, task=task)
+
+    def print(self, words: Sequence[Word], out: IO[bytes]) -> None:
         """Has a program print into a file; it has to end with status 0."""
-        status, _, said = self.programs.output(words, stdout=out)
+        status, _, said = self.task.output(words, stdout=out)
         if status != 0:
             raise Fault(said.partition("\n")[0] or f"{words[0]} {ending(status)}")
 
-    def printed(self, *words):
-        """What a program prints, sealed."""
+    def printed(self, *words: Word) -> Sealed:
+        """Returns what a program prints, sealed."""
         with tempfile.TemporaryFile() as out:
             self.print(words, out)
             out.seek(0)
             return Sealed(out)
 
-    def text(self, file):
-        """The text form of a file."""
+    def text(self, file: Sealed) -> Sealed:
+        """Returns the text form of a file."""
         return self.printed(*self.texts, file)
 
-    def made(self, *words):
-        """What aigedit prints, sealed."""
+    def made(self, *words: Word) -> Sealed:
+        """Returns what aigedit prints, sealed."""
         return self.printed(*self.aigedit, *words)
 
-    def circuit(self, file, what):
-        """What a file says that a program took, and what it is called in faults."""
-        return Circuit(Lines(file.bytes(), what), self.limit)
+    def line_of_run(self, file: Sealed, run: Sealed) -> str:
+        """Returns what aigcheck prints of a run."""
+        return self.printed(*self.aigcheck, "run", file, run).data().decode().rstrip("\n")
 
-    def print_question(self, question, file, out):
+    def circuit(self, file: Sealed, what: str) -> Circuit:
+        """Returns what a file says that a program took, and that faults call so."""
+        return Circuit(Lines(file.data(), what), self.limit)
+
+    def print_question(self, question: Query, file: Sealed, out: IO[bytes]) -> None:
         """Prints the clauses of a question into a file."""
-        words = self.queries if question.command == "query" else [*self.aigcheck, question.command]
-        self.print([*words, file, question.k, *question.form], out)
+        is_query = question.command == "query"
+        words = self.queries if is_query else [*self.aigcheck, question.command]
+        self.print([*words, file, *question.words], out)
 
-    def refusal(self, claim):
-        """Why aigcheck doesn't print the line of a claim, where a proof doesn't follow; else None, and other faults are raised."""
-        status, printed, said = self.programs.output([*self.aigcheck, *(claim.files.get(word, word) for word in claim.words)])
+    def refusal(self, claim: Claim) -> str | None:
+        """Returns why aigcheck doesn't print the line of a claim, if a proof doesn't follow.
+
+        Otherwise it returns None, and raises other faults."""
+        words = [*self.aigcheck, *(claim.files.get(word, word) for word in claim.words)]
+        status, printed, said = self.task.output(words)
         said = said.partition("\n")[0]
         if status != 0 and not said.endswith(STEP):
             raise Fault(said or f"{self.aigcheck[0]} {ending(status)}")
@@ -65,22 +147,26 @@ class Judge:
             raise Fault(f"aigcheck printed {printed!r}")
         return said if status else None
 
-    def shows(self, claim):
-        """Whether aigcheck prints the line of a claim, and doesn't say that a proof doesn't follow."""
+    def shows(self, claim: Claim) -> bool:
+        """Returns whether aigcheck prints the line of a claim.
+
+        Anything but a proof that doesn't follow is a fault."""
         return self.refusal(claim) is None
 
-    def holds(self, claim):
-        """Whether aigcheck prints the line of a claim about a run, whatever it says else."""
+    def holds(self, claim: Claim) -> bool:
+        """Returns whether aigcheck prints the line of a claim about a run."""
         try:
             return self.shows(claim)
         except Fault:
             return False
 
-    def check(self, claim):
+    def check(self, claim: Claim) -> None:
+        """Has aigcheck print the line of a claim."""
         if why := self.refusal(claim):
             raise Fault(why)
 
-    def witness(self, file, question, solution):
-        """The witness that a solution of a question says, as bytes."""
+    def witness(self, file: Sealed, question: Question, solution: Sealed) -> bytes:
+        """Returns the witness that a solution of a question is."""
         to = ["to"] if question.command == "bounded" else []
-        return self.printed(*self.aigcheck, "witness", file, *to, question.k, solution).bytes()
+        words: list[Word] = [*self.aigcheck, "witness", file, *to, question.k, solution]
+        return self.printed(*words).data()

@@ -1,9 +1,15 @@
 """The conditions by which a witness circuit simulates a file, and has an inductive property that implies the file's. Which of its inputs and
 latches stand for the file's its names say, or else their order. What is asked about them is aigcheck's; names are told alone."""
-import re
+from __future__ import annotations
 
-from aigprove.circuits.normalised import Gates
-from aigprove.questions.solver import Question
+import re
+from collections.abc import Iterable, Sequence
+from dataclasses import dataclass
+
+from aigprove.circuits.aiger import Circuit
+from aigprove.circuits.gates import Gates
+from aigprove.processes.sealed import Sealed, Word
+from aigprove.questions.checker import Query, Question
 
 CONDITIONS = ["reset", "transition", "property", "base", "step"]
 # How a name begins that says for which literal of the file a leaf stands, a line of such a name, and one that has a number.
@@ -11,39 +17,44 @@ STANDS = b"= "
 LINE, NAME = re.compile(rb"^[il][0-9]+ " + STANDS, re.M), re.compile(STANDS + rb"([0-9]+)")
 
 
-class Condition(Question):
-    """Clauses that ask whether a witness circuit, in the place of a step, breaks a condition."""
+@dataclass(frozen=True)
+class Condition:
+    """Clauses that ask whether a witness circuit breaks a condition."""
+
+    witness: Sealed
+    name: str
+    command: str = "obligations"
 
     @property
-    def name(self):
-        return self.form[0]
+    def words(self) -> Sequence[Word]:
+        return [self.witness, self.name]
 
 
-def of_both(witness):
+def of_both(witness: Sealed) -> dict[str, Query]:
     """What is asked of a file and a witness circuit, by the conditions."""
-    return {name: Condition("obligations", witness, (name,)) for name in CONDITIONS}
+    return {name: Condition(witness, name) for name in CONDITIONS}
 
 
-def questions(*form):
+def questions(*form: str) -> dict[str, Query]:
     """What is asked of a machine whose property has to be inductive, by clauses of this form."""
     return {"base": Question("query", 0, form), "step": Question("window", 0, form)}
 
 
-def is_named(witness):
+def is_named(witness: Sealed) -> bool:
     """Whether names say which leaves stand for the file's."""
-    return LINE.search(witness.bytes()) is not None
+    return LINE.search(witness.data()) is not None
 
 
-def told(broken):
+def told(broken: Iterable[str]) -> list[str]:
     """The line of the conditions that aren't met, if there are such."""
     return [f"it doesn't meet the conditions: {', '.join(broken)}"] if broken else []
 
 
-def with_open_resets(circuit, starts):
+def with_open_resets(circuit: Circuit, starts: bool) -> None:
     """Has latches whose resets are functions start open, and, where it `starts`, by a constraint with the values of these: the same for a
     question about step 0, and for one about steps from any state without it. Programs that know no such resets take it."""
-    gates, found = Gates(2 * (circuit.header.counts[0] + 1)), [i for i, reset in enumerate(circuit.resets) if reset > 1]
-    for i in found:
+    gates = Gates(2 * (circuit.header.counts[0] + 1))
+    for i in circuit.opened():
         latch, reset = circuit.latches[i], circuit.resets[i]
         if starts and reset != latch:
             circuit.constraints.append(gates.choice(latch, reset, reset ^ 1))
@@ -52,13 +63,13 @@ def with_open_resets(circuit, starts):
     circuit.header.count(circuit, gates.next // 2 - 1)
 
 
-def leaves(circuit):
+def leaves(circuit: Circuit) -> dict[int, tuple[str, int]]:
     """The places of the inputs and latches, by their literals."""
     lists = [("i", circuit.inputs), ("l", circuit.latches)]
     return {literal: (letter, i) for letter, literals in lists for i, literal in enumerate(literals)}
 
 
-def name_shared(circuit, file, named):
+def name_shared(circuit: Circuit, file: Circuit, named: Circuit) -> None:
     """Gives the leaves of a witness circuit that stand for the file's the names that these have where they are told."""
     given, found = leaves(file), {place: NAME.fullmatch(name) for place, name in circuit.names.items()}
     by_name = {place: given.get(int(name[1])) for place, name in found.items() if name}

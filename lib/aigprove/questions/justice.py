@@ -1,147 +1,190 @@
-"""A justice property of a file: what is asked about is the file that aigedit makes of it, whose bad state ends a fair lasso. A liveness
-assertion of a design is one of a file of its own kind: a fair run on which it fails."""
+"""A justice property of a file, or a liveness assertion of a design.
+
+What is asked about is the file that aigedit makes of it, whose bad state ends a fair lasso. A
+liveness assertion of a design is a justice property of a file of its own: a fair run on which it
+fails."""
+from __future__ import annotations
+
 import functools
 import re
+from collections.abc import Iterable, Iterator, Mapping, Sequence
+from typing import TYPE_CHECKING
 
+from aigprove.circuits.aiger import Circuit, Fault, decoded
+from aigprove.circuits.witness import Witness
 from aigprove.designs.front_ends import FAIR, LIVE
+from aigprove.options.options import Options
 from aigprove.output import waves
-from aigprove.processes.programs import Fault, Sealed
-from aigprove.questions.checker import Claim
-from aigprove.questions.source import Asked, Given, changes_of, counted, of_kind
+from aigprove.output.report import PropertyAnswer
+from aigprove.output.signals import Signals
+from aigprove.processes.sealed import Sealed
+from aigprove.questions.bad_states import of_kind
+from aigprove.questions.checker import Checker, Claim, Question
+from aigprove.questions.input_file import InputFile, counted
+from aigprove.questions.target import Target, changes_of
+
+if TYPE_CHECKING:
+    from aigprove.output.evidence import Evidence
 
 
-class Justices(Asked):
-    """The justice properties of a file, of a design its liveness assertions."""
+class Justices(Target):
+    """The justice properties of a file, which are the liveness assertions of a design."""
 
-    # The letter of their numbers, what all and one of them are called among what is kept, and the option that asks about one.
+    # The letter of their numbers, what all and one of them are called among what is kept, and the
+    # option that asks about one.
     letter, stems, option = "j", ("justices", "justice"), "justice"
 
-    def __init__(self, given):
-        self.given, self.path, self.name, self.asked = given, given.path, given.name, given.file
-        self.circuit, self.about, self.keep = given.circuit, given.about, given.keep
-        if given.design and not (given.design.has_lives and given.design.assertions):
-            raise Fault(f"{self.path}: {given.design.top} has no liveness assertion that can be asked about")
+    def __init__(self, given: InputFile) -> None:
+        self.given, self.path, self.name = given, given.path, given.name
+        design = given.design
+        if design and not (design.has_lives and design.assertions):
+            raise Fault(f"{self.path}: {design.top} has no liveness assertion that can be asked "
+                        "about")
 
-    def answers(self):
-        """The properties, which have no answers yet, with their names."""
-        from aigprove.output.report import Answer
+    @property
+    def asked(self) -> Sealed:
+        return self.given.file
 
+    def circuit(self) -> Circuit:
+        return self.given.circuit()
+
+    def about(self) -> Iterator[str]:
+        return self.given.about()
+
+    def keep(self, evidence: Evidence) -> None:
+        self.given.keep(evidence)
+
+    def answers(self) -> list[PropertyAnswer]:
+        """Returns the properties, which have no answers yet, with their names."""
         if self.given.design:
-            return [Answer(self.letter, i, *it) for i, it in enumerate(self.given.design.named())]
-        names = self.circuit().names
-        numbers = range(self.given.header().justice)
-        return [Answer(self.letter, i, names.get((self.letter, i), b"").decode("utf-8", "surrogateescape")) for i in numbers]
+            named = self.given.design.named()
+            return [PropertyAnswer(self.letter, i, *it) for i, it in enumerate(named)]
+        names, numbers = self.circuit().names, range(self.given.header().justice)
+        return [PropertyAnswer(self.letter, i, decoded(names.get((self.letter, i), b"")))
+                for i in numbers]
 
 
-def lives(words, above, judge, first):
-    """The liveness assertions of a design of which something else was asked first: what was read of it is given."""
-    return Justices(Given(words.files, of_kind(LIVE, words, first), above, judge, "lives", first.given))
+def lives(options: Options, above: str, checker: Checker, first: InputFile) -> Justices:
+    """Returns the liveness assertions of a design of which something else was asked first.
+
+    What was read of the design is given."""
+    design = of_kind(LIVE, options.design, first)
+    return Justices(InputFile(options.files, design, above, checker, "lives", first.given))
 
 
-class Justice(Asked):
+class Justice(Target):
     """A justice property of a file, by its number there."""
 
     # What stands before lines of aigcheck, and by which command of aigedit the file is made.
     prefix, of_step, command, counts, can_be_simulated = "live: ", "live: ", "live", True, False
 
-    def __init__(self, whole, number, is_alone=True, folder=""):
-        self.given, self.path, self.number, self.circuit, self.is_alone = whole.given, whole.path, number, whole.circuit, is_alone
+    def __init__(self, whole: Justices, number: int, above: str = "",
+                 is_alone: bool = True) -> None:
+        self.given, self.path, self.number = whole.given, whole.path, number
+        self.above, self.is_alone = above, is_alone
         # The name of the file that was given among what is kept, which may stand in a folder.
-        self.file = folder + self.given.name
+        self.file = above + self.given.name
         self.name, self.stem = f"justice-{number}.aag", f"{whole.stems[1]}-{number}"
-        self.safe, self.so_far, self.nothing = f"no fair run of j{number}", f"no fair lasso of j{number}", f"nothing was shown of j{number}"
+        self.safe, self.so_far = f"no fair run of j{number}", f"no fair lasso of j{number}"
+        self.nothing = f"nothing was shown of j{number}"
         if number >= self.given.header().justice:
             raise Fault(f"{self.path}: no such justice property")
 
     @functools.cached_property
-    def asked(self):
-        return self.given.judge.made(self.command, self.given.file, self.number)
+    def made(self) -> Sealed:
+        """The file that aigedit makes."""
+        return self.given.checker.made(self.command, self.given.file, self.number)
 
-    def of_given(self, command, words, files, *rounds):
-        """That the file that was given has no fair run, as aigcheck says of it."""
+    @property
+    def asked(self) -> Sealed:
+        return self.made
+
+    def circuit(self) -> Circuit:
+        return self.given.circuit()
+
+    def of_given(self, command: str, words: Iterable[str], files: Mapping[str, Sealed],
+                 *rounds: str) -> Claim:
+        """Returns that the file that was given has no fair run, as aigcheck says of it."""
         words = ["--justice", str(self.number), *rounds, command, self.file, *words]
         return Claim(self.safe, words, {self.file: self.given.file, **files})
 
-    def proved(self, question, base, window, step):
+    def proved(self, question: Question, base: Sealed, window: Question, step: Sealed) -> Claim:
         words = ["to", str(question.k), question.name, window.name, *window.form]
         return self.of_given("safe", words, {question.name: base, window.name: step})
 
-    def certified(self, certificate, proofs, *rounds):
+    def certified(self, certificate: Sealed, proofs: Mapping[str, Sealed], *form: str) -> Claim:
         files = {"certificate": certificate, **proofs}
-        return self.of_given("certified", files, files, *rounds)
+        return self.of_given("certified", files, files, *form)
 
-    def is_fair(self):
+    def is_fair(self) -> bool:
         return self.given.header().fairness > 0
 
-    def rounds(self, count):
-        """The file in which so many rounds of it end."""
-        return self.given.judge.made("rounds", self.given.file, self.number, count)
+    def rounds(self, checker: Checker, count: int) -> Sealed:
+        return checker.made("rounds", self.given.file, self.number, count)
 
-    def warnings(self):
-        """A line of what the file has that nothing is asked about."""
+    def warnings(self) -> Iterator[str]:
         header = self.given.header()
-        others = "other justice property", "other justice properties"
-        unseen = [*counted(header.bads, "bad state property", "bad state properties"), *counted(header.justice - 1, *others)]
+        unseen = [*counted(header.bads, "bad state property", "bad state properties"),
+                  *counted(header.justice - 1, "other justice property",
+                           "other justice properties")]
         if unseen and self.is_alone:
             verb = "was" if header.bads + header.justice == 2 else "were"
             yield f"{self.path}: {' and '.join(unseen)} {verb} not looked at"
 
-    def about(self):
-        """Lines of what is asked about."""
+    def about(self) -> Iterator[str]:
         if self.is_alone or self.number == 0:
             yield from self.given.about()
         if self.given.design:
             yield f"j{self.number}: {self.given.design.assertion(self.number)[0]}"
 
-    def places(self, circuit):
-        """How the AIGER report names what is asked about."""
+    def places(self, circuit: Circuit) -> list[str]:
         return [f"j{self.number}"]
 
-    def of_file(self, told):
-        """The lasso that a run of the made file is: without what saves a state, in its inputs and latches."""
-        latches = self.given.header().latches
-        return told._replace(letter="j", bad=self.number, start=told.start[:latches], steps=[row[:-1] for row in told.steps])
+    def of_file(self, trace: Witness) -> Witness:
+        return trace.lasso(self.number, self.given.header().latches)
 
-    def lasso(self, told):
-        """The lasso that a run of the made file is, sealed."""
-        return Sealed(self.of_file(told).text().encode())
+    def confirm(self, trace: Witness) -> None:
+        lasso = Sealed(self.of_file(trace).text().encode())
+        self.loop = loop_of(self.given.checker.line_of_run(self.given.file, lasso))
 
-    def confirm(self, told):
-        judge = self.given.judge
-        self.loop = judge.printed(*judge.aigcheck, "run", self.given.file, self.lasso(told)).bytes().decode().rstrip("\n")
+    def found(self, signals: Signals, traces: Sequence[Witness]) -> str:
+        """Returns the line that says where the loop of a lasso is, as aigcheck found."""
+        place = signals.place("j", self.number)
+        return f"a fair run of {place}: {span(*self.loop)} again and again"
 
-    def steps_of_loop(self):
-        """The first and the last step of the loop, as aigcheck found."""
-        return map(int, re.search("from step ([0-9]+) to ([0-9]+)", self.loop).groups())
+    def lines(self, signals: Signals, circuit: Circuit, trace: Witness) -> Iterator[str]:
+        """Yields the lines of a lasso.
 
-    def found(self, shown, tolds):
-        """The line that says where the loop of a lasso is, as aigcheck found."""
-        begin, last = self.steps_of_loop()
-        span = f"step {begin}" if begin == last else f"steps {begin} to {last}"
-        return f"a fair run of {shown.place('j', self.number)}: {span} again and again"
-
-    def lines(self, shown, circuit, told):
-        """Lines of a lasso: the latches that its literals read, or that are open at first and matter; and the inputs of each step."""
-        lasso, literals = self.of_file(told), circuit.justice[self.number] + circuit.fairness
-        read = set().union(*map(circuit.read_by, literals))
+        They have the latches that its literals read, or that are uninitialised and matter, and the
+        inputs of each step."""
+        lasso = self.of_file(trace)
+        literals = circuit.justice[self.number] + circuit.fairness
+        read: set[int] = set().union(*map(circuit.read_by, literals))
         read = (named(circuit, read) if self.given.design else read) | self.opened(circuit, lasso)
-        shown.hidden = self.watching(circuit)
-        yield from shown.lines(lasso, read, changes_of(shown, circuit, lasso, read))
+        signals.hidden = self.watching(circuit)
+        yield from signals.lines(lasso, read, changes_of(signals, circuit, lasso, read))
         yield from self.meaning(lasso)
 
-    def opened(self, circuit, told):
-        """The places of the latches that are open at first, and matter: of a design those with names."""
-        return {i for i in super().opened(circuit, told) if not self.given.design or ("l", i) in circuit.names}
+    def opened(self, circuit: Circuit, trace: Witness) -> set[int]:
+        """Returns the places of the latches that are uninitialised, and matter.
 
-    def watching(self, circuit):
-        """The places of the inputs and latches by which yosys has liveness watched: the last ones, of each assertion an input that says
-        from which step on it fails, and two latches, and of each assumption a latch."""
+        Those of a design have names."""
+        return {i for i in super().opened(circuit, trace)
+                if not self.given.design or ("l", i) in circuit.names}
+
+    def watching(self, circuit: Circuit) -> set[str]:
+        """Returns the places of the inputs and latches by which yosys has liveness watched.
+
+        They are the last ones: of each assertion an input that says from which step on it fails,
+        and two latches, and of each assumption a latch."""
         counts = self.given.design.counts if self.given.design else {LIVE: 0, FAIR: 0}
-        last = {"i": (len(circuit.inputs), counts[LIVE]), "l": (len(circuit.latches), 2 * counts[LIVE] + counts[FAIR])}
-        return {f"{letter}{i}" for letter, (end, count) in last.items() for i in range(end - count, end)}
+        last = {"i": (len(circuit.inputs), counts[LIVE]),
+                "l": (len(circuit.latches), 2 * counts[LIVE] + counts[FAIR])}
+        return {f"{letter}{i}" for letter, (end, count) in last.items()
+                for i in range(end - count, end)}
 
-    def meaning(self, lasso):
-        """Lines of how a lasso shows that a liveness assertion fails."""
+    def meaning(self, lasso: Witness) -> Iterator[str]:
+        """Yields lines of how a lasso shows that a liveness assertion fails."""
         design = self.given.design
         if design:
             own, text = design.assertion(self.number)
@@ -149,21 +192,33 @@ class Justice(Asked):
             yield f"{own} fails: from step {chosen.index('1')} on it is never met"
             yield from [f"it says: {text}"] * bool(text)
 
-    def dump(self, circuit, told):
-        """The lines of a value change dump, in which the loop is marked."""
-        lasso, (begin, _) = self.of_file(told), self.steps_of_loop()
-        return waves.dump(circuit, lasso.start, lasso.steps, begin)
+    def dump(self, circuit: Circuit, trace: Witness) -> Iterable[str]:
+        """Returns the lines of a value change dump, in which the loop is marked."""
+        lasso = self.of_file(trace)
+        return waves.dump(circuit, lasso.start, lasso.steps, self.loop[0])
 
-    def keep(self, evidence, folder=""):
-        """Keeps the file and the words that make it, of a file that is kept too, or that stands in a folder."""
-        if not folder:
+    def keep(self, evidence: Evidence) -> None:
+        if not self.above:
             self.given.keep(evidence)
         evidence.makes(self.name, self.asked, self.command, self.file, str(self.number))
 
 
-def named(circuit, left):
-    """The places of the latches with names that these are, or read in earlier steps by others without."""
-    seen = set()
+def loop_of(line: str) -> tuple[int, int]:
+    """Returns the first and the last step of a lasso's loop, by the line that aigcheck prints."""
+    found = re.search("from step ([0-9]+) to ([0-9]+)", line)
+    if not found:
+        raise Fault(f"aigcheck printed {line!r}")
+    return int(found[1]), int(found[2])
+
+
+def span(begin: int, last: int) -> str:
+    """Returns how the steps of a loop are called."""
+    return f"step {begin}" if begin == last else f"steps {begin} to {last}"
+
+
+def named(circuit: Circuit, left: set[int]) -> set[int]:
+    """Returns the places of the latches with names that these are or read, by others without."""
+    seen: set[int] = set()
     while left - seen:
         nameless = {i for i in left - seen if ("l", i) not in circuit.names}
         seen |= left

@@ -1,0 +1,147 @@
+"""Certificates, and invariants that ABC wrote: what aigcheck is asked about them."""
+from __future__ import annotations
+
+import re
+from collections.abc import Callable, Iterator, Mapping
+
+from aigprove.circuits import simulation
+from aigprove.circuits.aiger import Circuit, Fault
+from aigprove.engines.job import Job
+from aigprove.output.signals import Signals
+from aigprove.processes.background import BackgroundCall
+from aigprove.processes.sealed import Sealed
+from aigprove.questions import conditions
+from aigprove.questions.checker import MISFIT, Query
+from aigprove.questions.solver import Solver, true_of
+
+# How an invariant that ABC wrote is told, and how many words of a state are printed.
+PLA, SHOWN = re.compile(rb"^\.ilb ", re.M), 20
+# How aigedit says that a certificate doesn't begin with the file's leaves, or that a reset is no
+# constant and not the latch itself.
+NO_JOINT = (MISFIT, "aigedit: other file: bad literal in latches")
+Proofs = dict[str, Sealed]
+
+
+class Certificate:
+    """A certificate, sealed, or an invariant that ABC wrote of the file.
+
+    The file beside it is asked about by clauses of a form."""
+
+    def __init__(self, job: Job, solver: Solver, certificate: Sealed, *form: str) -> None:
+        self.job, self.solver, self.checker, self.source = job, solver, job.checker, job.source
+        self.certificate, self.form = certificate, form
+
+    def run(self) -> None:
+        """Has the certificate checked, by proofs about the file and it, and hands it in."""
+        if PLA.search(self.certificate.data()):
+            self.certificate = self.of_invariant()
+        with self.job.answering():
+            joint = self.joint()
+            proofs = self.joined(joint) if joint else self.simulated()
+            claim = self.source.certified(self.certificate, proofs, *self.form)
+            self.checker.check(claim)
+        self.job.certificate(claim, self.certificate)
+
+    def joint(self) -> Sealed | None:
+        """Returns the file beside the certificate.
+
+        It is None if the certificate doesn't begin with the file's inputs and latches, or has
+        resets that are functions, but may simulate the file still."""
+        if self.source.can_be_simulated and conditions.is_named(self.certificate):
+            return None
+        try:
+            return self.checker.made("join", self.source.asked, self.certificate)
+        except Fault as why:
+            if not (self.source.can_be_simulated and str(why).startswith(NO_JOINT)):
+                raise
+            return None
+
+    def asked(self, questions: Mapping[str, Query], file: Sealed) -> tuple[Proofs, Proofs]:
+        """Returns proofs for questions by their names, and the solutions of those that have some.
+
+        They are asked side by side."""
+        asked = {name: BackgroundCall(self.solver.ask, question, file)
+                 for name, question in questions.items()}
+        for call in asked.values():
+            call.join()
+        given = {name: call.result() for name, call in asked.items()}
+        proofs, solutions = ({name: it for name, (has, it) in given.items() if has == wanted}
+                             for wanted in (False, True))
+        return proofs, solutions
+
+    def joined(self, joint: Sealed) -> Proofs:
+        """Returns proofs about the file beside the certificate."""
+        proofs, solutions = self.asked(conditions.questions(*self.form), joint)
+        for name, solution in solutions.items():
+            circuit = self.checker.circuit(joint, "the joint file")
+            raise Fault("; ".join([broken(circuit, name, solution), *self.unmet()]))
+        return proofs
+
+    def unmet(self) -> list[str]:
+        """Returns the line of conditions that a certificate that was given doesn't meet.
+
+        Only of what was given is it printed what else it might have been."""
+        is_given = self.certificate is self.job.options.certificate
+        if not (self.source.can_be_simulated and is_given):
+            return []
+        questions = conditions.of_both(self.certificate)
+        return conditions.told(self.asked(questions, self.source.asked)[1])
+
+    def simulated(self) -> Proofs:
+        """Returns proofs of the conditions by which the certificate simulates the file."""
+        questions = conditions.of_both(self.certificate)
+        proofs, solutions = self.asked(questions, self.source.asked)
+        if solutions:
+            raise Fault("; ".join([*self.breaking(solutions), *conditions.told(solutions)]))
+        return proofs
+
+    def breaking(self, solutions: Proofs) -> Iterator[str]:
+        """Yields what breaks the first condition of those of the certificate's own steps."""
+        for name in [name for name in conditions.questions() if name in solutions][:1]:
+            given = self.checker.circuit(self.certificate, "the certificate")
+            conditions.with_open_resets(given, name == "base")
+            text = self.checker.text(Sealed(given.text()))
+            circuit = self.checker.circuit(text, "the certificate")
+            # Names have the literals of the file as it is given.
+            file = self.checker.circuit(self.source.asked, "FILE")
+            conditions.name_shared(circuit, file, self.source.circuit())
+            _, solution = self.solver.ask(conditions.questions()[name], text)
+            yield broken(circuit, name, solution)
+
+    def of_invariant(self) -> Sealed:
+        """Returns the certificate of an invariant of the file."""
+        model = self.job.problem.normalised
+        text = self.certificate.data().decode("utf-8", "surrogateescape")
+        made = model.certificate(text, model.of_abc())
+        if made is None:
+            raise Fault("the invariant names other latches than the file's")
+        return Sealed(made)
+
+
+def broken(joint: Circuit, name: str, solution: Sealed) -> str:
+    """Returns what breaks a certificate, by a solution of its question about base or step."""
+    signals, values = Signals(joint), solved(solution)
+    state, inputs = ([values(literal) for literal in literals]
+                     for literals in (joint.latches, joint.inputs))
+    before, given = listed(signals.values("l", state)), listed(signals.values("i", inputs))
+    if name == "base":
+        return f"it doesn't hold at the start: {before}, inputs {given}"
+    *_, last = simulation.run(joint, state, [inputs, "x" * len(inputs)])
+    after = [last[literal] for literal in joint.latches]
+    moved = {i for i, (old, new) in enumerate(zip(state, after)) if old != new}
+    now = listed(signals.values("l", after, moved))
+    return f"a step breaks it: from {before}, by {given}, to {now}"
+
+
+def solved(solution: Sealed) -> Callable[[int], str]:
+    """Returns the value of each literal of a file in text form at step 0, as a function.
+
+    The solution is a solver's, of a question about the file."""
+    true = true_of(solution)
+    return lambda literal: "1" if literal // 2 + 1 in true else "0"
+
+
+def listed(words: list[str]) -> str:
+    """Returns words with spaces between, of many the first."""
+    more = [f"and {len(words) - SHOWN} more"] * (len(words) > SHOWN)
+    return " ".join(words[:SHOWN] + more) or "none"

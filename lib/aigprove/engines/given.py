@@ -1,0 +1,27 @@
+"""What somebody else found, and the command line gives: a run, or a certificate."""
+from __future__ import annotations
+
+from aigprove.circuits import witness
+from aigprove.circuits.aiger import Fault
+from aigprove.engines.job import Job
+from aigprove.processes.sealed import Sealed
+
+
+class GivenRun:
+    """A run to a bad state, sealed: a witness, or a counterexample of ABC's."""
+
+    def __init__(self, given: Sealed, job: Job) -> None:
+        self.job, self.given = job, given
+
+    def run(self) -> None:
+        """Has it checked, and hands it in."""
+        data = self.given.data()
+        if data.startswith((b"1\nb", b"c")):
+            self.job.hand_in_run(data)
+            return
+        run = witness.of_abc(data.decode("utf-8", "replace"), self.job.problem.circuit)
+        trace = self.job.reached(*run) if run else None
+        if trace is None:
+            raise Fault("WITNESS is neither a witness nor a counterexample of ABC that reaches a "
+                        "bad state")
+        self.job.hand_in_run(trace.text().encode())

@@ -1,0 +1,86 @@
+"""One question of a command line, whose answer is printed."""
+from __future__ import annotations
+
+from aigprove.circuits.aiger import Fault
+from aigprove.engines.answers import FAILED, OPEN, SAFE, UNSAFE
+from aigprove.engines.board import Board
+from aigprove.engines.clock import Clock
+from aigprove.engines.job import Job
+from aigprove.engines.portfolio import Portfolio, engines_of
+from aigprove.engines.problem import Problem, header_of
+from aigprove.options.options import Options
+from aigprove.output.evidence import Evidence
+from aigprove.output.messages import say, show_progress
+from aigprove.output.printer import Printer
+from aigprove.processes.scheduler import Scope
+from aigprove.questions.assumptions import Assumptions
+from aigprove.questions.checker import Checker
+from aigprove.questions.endless import Endless
+from aigprove.questions.justice import Justice
+from aigprove.questions.target import Target
+
+
+class Inquiry:
+    """A question, the engines that are asked, and what is printed and kept."""
+
+    def __init__(self, options: Options, scope: Scope, checker: Checker, above: str,
+                 source: Target) -> None:
+        self.options, self.scope, self.source = options, scope, source
+        task = scope.task("main")
+        self.checker = checker.of(task)
+        self.problem = Problem(options, source, self.checker, above)
+        self.header = header_of(self.problem.text)
+        self.board = Board(Clock(options.deadline))
+        self.job = Job(self.problem, task, self.board)
+        self.evidence = Evidence(options.keep, options.limit) if options.keep else None
+        if self.evidence:
+            source.keep(self.evidence)
+        self.printer = Printer(self.job, self.evidence)
+
+    def run(self) -> int:
+        """Asks the engines, prints the answer, and returns the exit status."""
+        for line in [] if self.options.quiet else self.source.warnings():
+            say(line)
+        for line in self.source.about():
+            self.printer.print_line(line)
+        status = self.answer()
+        if status != SAFE:
+            self.printer.tell_no_certificate(
+                "the answer is a run" if status == UNSAFE else "there is no answer")
+        if status == SAFE and self.source.assumed(self.header):
+            status = self.status_of(Assumptions(self.source, self.checker))
+        if status == SAFE and isinstance(self.source, Justice) and self.source.is_fair():
+            status = self.status_of(Endless(self.source, self.checker))
+        if not self.options.aiger or status == FAILED:
+            return status
+        self.printer.print_report(status)
+        return OPEN
+
+    def answer(self) -> int:
+        """Runs the engines, and returns the exit status of their answer."""
+        portfolio = Portfolio(self.problem, self.scope, self.board, self.printer)
+        engines = engines_of(self.problem)
+        status = portfolio.run(engines)
+        show_progress()
+        if status is None and len(portfolio.failed) == len(engines):
+            return FAILED
+        if status is None:
+            self.printer.print_open()
+            return OPEN
+        return status
+
+    def status_of(self, found: Assumptions | Endless) -> int:
+        """Prints whether some run meets what is assumed, by which the answer isn't empty."""
+        self.scope.end_others(self.job.task)
+        try:
+            if isinstance(found, Endless):
+                found.look(self.job.solver(), self.options.deadline)
+            else:
+                least = max(self.board.steps - 1, self.board.windowed)
+                found.look(self.job.solver(), least, self.options.deadline)
+        except Fault as why:
+            say(f"assumptions: {why}")
+        if self.evidence:
+            found.keep(self.evidence)
+        self.printer.print_line(found.line(), found.is_empty())
+        return OPEN if found.is_empty() else SAFE

@@ -1,0 +1,46 @@
+"""What a portfolio expects of what it runs, of what is asked about, and of what hears answers."""
+from __future__ import annotations
+
+from collections.abc import Mapping
+from typing import Protocol
+
+from aigprove.engines.answers import Answer
+from aigprove.processes.sealed import Sealed
+from aigprove.questions.checker import Claim, Question
+
+
+class Source(Protocol):
+    """What engines ask about: a file, and what aigcheck says of it once they have evidence."""
+
+    @property
+    def asked(self) -> Sealed:
+        """The file."""
+
+    def unsolvable(self, question: Question, proof: Sealed) -> Claim:
+        """Returns that a question has no solution, by a proof."""
+
+    def proved(self, question: Question, base: Sealed, window: Question, step: Sealed) -> Claim:
+        """Returns that no step is bad, by proofs of the steps up to K and of a window."""
+
+    def certified(self, certificate: Sealed, proofs: Mapping[str, Sealed], *form: str) -> Claim:
+        """Returns that no step is bad, by a certificate and proofs about both."""
+
+
+class Engine(Protocol):
+    """What looks for an answer, in a thread of its own."""
+
+    def run(self) -> None:
+        """Looks for an answer, and hands it in once it is checked."""
+
+
+class Sink(Protocol):
+    """What hears of answers."""
+
+    def take(self, engine: str, answer: Answer) -> int | None:
+        """Takes an answer of an engine, and returns the exit status if it decides the question."""
+
+    def fail(self, engine: str, error: Exception | str) -> None:
+        """Reports why an engine gives no answer."""
+
+    def show_progress(self) -> None:
+        """Shows what is being done."""

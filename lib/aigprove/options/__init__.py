@@ -1,0 +1,1 @@
+"""The command line: its words, and the options that they stand for."""

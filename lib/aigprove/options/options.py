@@ -1,0 +1,109 @@
+"""What a command line asks for, as it stays from then on."""
+from __future__ import annotations
+
+from dataclasses import dataclass
+
+from aigprove.processes.sealed import Sealed
+from aigprove.questions.solver import HINTED
+
+
+@dataclass(frozen=True)
+class Reset:
+    """A reset in the first steps."""
+
+    signal: str
+    value: int
+    steps: int
+
+    def __str__(self) -> str:
+        when = f"in the first {self.steps} steps" if self.steps > 1 else "in step 0"
+        return f"{self.signal}={self.value} {when}"
+
+
+@dataclass(frozen=True)
+class DesignOptions:
+    """How a design is read."""
+
+    top: str | None
+    define: tuple[tuple[str, str], ...]
+    include: tuple[str, ...]
+    parameter: tuple[tuple[str, str], ...]
+    black_box: tuple[str, ...]
+    multiclock: bool
+    reset: Reset | None
+    # The type of the cells that are asked about, and those of others that get a question of
+    # their own later.
+    kind: str
+    later: frozenset[str]
+    is_compared: bool
+    is_quiet: bool
+    deadline: float
+
+
+@dataclass(frozen=True)
+class SolverOptions:
+    """How a SAT solver is called: no words where cadical isn't installed."""
+
+    words: tuple[str, ...]
+    is_cadical: bool
+
+    @property
+    def takes_turns(self) -> bool:
+        """Whether it is asked about one step after the other.
+
+        A proof with hints is checked in far less time than one of steps in turn, which has none."""
+        return self.is_cadical and HINTED not in self.words
+
+
+@dataclass(frozen=True)
+class Programs:
+    """The paths of the programs that are trusted."""
+
+    aigtool: str
+    aigedit: str
+    aigcheck: str
+
+
+@dataclass(frozen=True)
+class Options:
+    """What a command line asks for. Files that are checked are sealed copies."""
+
+    files: tuple[str, ...]
+    design: DesignOptions
+    solver: SolverOptions
+    programs: Programs
+    # A path of ABC, if one is given.
+    abc: str | None
+    # The engines that are asked, and whether they were named.
+    engines: tuple[str, ...]
+    are_engines_named: bool
+    # Which question is asked.
+    equal: str | None
+    starts: str | None
+    constraints: str | None
+    property: int | None
+    justice: int | None
+    certificate: Sealed | None
+    run: Sealed | None
+    # Whether each property is asked about, and what is written of the table.
+    each: bool
+    shortest: bool
+    tasks: bool
+    gather: str | None
+    json: str | None
+    junit: str | None
+    # How long, and how far.
+    bound: int | None
+    timeout: float | None
+    deadline: float
+    limit: int | None
+    memory: int | None
+    jobs: int
+    # What is printed and written.
+    verbose: bool
+    quiet: bool
+    aiger: bool
+    write_certificate: str | None
+    keep: str | None
+    witness: str | None
+    vcd: str | None

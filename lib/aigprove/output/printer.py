@@ -1,0 +1,121 @@
+"""The printed answers of one question, and what is kept of them."""
+from __future__ import annotations
+
+import sys
+
+from aigprove.circuits import certificates
+from aigprove.engines.answers import (OPEN, SAFE, UNSAFE, Answer, Certified, CountedRounds,
+                                      Induction, RunFound, StepShown)
+from aigprove.engines.job import Job
+from aigprove.output.evidence import Evidence
+from aigprove.output.messages import report, say, show_progress
+from aigprove.output.runs import RunPrinter
+from aigprove.processes.files import write
+from aigprove.questions.checker import Claim
+
+
+class Printer:
+    """A sink that prints answers and errors, each in the place of the line of progress."""
+
+    def __init__(self, job: Job, evidence: Evidence | None) -> None:
+        self.job, self.evidence = job, evidence
+        self.options, self.source, self.board = job.options, job.source, job.board
+        # The last line that was printed, and what prints the run that was found.
+        self.last: str | None = None
+        self.run = RunPrinter(job, self)
+
+    def take(self, engine: str, answer: Answer) -> int | None:
+        status, seconds = self.print_answer(answer), self.board.clock.seconds()
+        if self.options.verbose and status is not None:
+            say(f"{engine} answered after {seconds:.1f} s")
+        if self.evidence and status is not None:
+            self.evidence.note(engine, seconds)
+        return status
+
+    def fail(self, engine: str, error: Exception | str) -> None:
+        show_progress()
+        if isinstance(error, str):
+            say(f"{engine}: {error}")
+        else:
+            report(error, self.options.verbose, engine)
+
+    def show_progress(self) -> None:
+        if sys.stderr.isatty():
+            doing = [*self.board.doing.values(), *self.job.task.scheduler.reading()]
+            show_progress(f"{', '.join(doing)}: {self.board.clock.seconds():.0f} s")
+
+    def print_answer(self, answer: Answer) -> int | None:
+        """Prints an answer, and returns the exit status if it decides the question."""
+        if isinstance(answer, StepShown):
+            self.print_step(answer)
+            return None
+        if isinstance(answer, RunFound):
+            self.run.print(answer.traces)
+            return UNSAFE
+        if isinstance(answer, Induction):
+            self.print_claim(answer.window, self.source.prefix)
+        self.print_claim(answer.claim, is_answer=True)
+        self.certify(answer)
+        return SAFE
+
+    def print_line(self, line: str, is_answer: bool = False) -> None:
+        """Prints a line; if the answer alone is wanted, only that."""
+        show_progress()
+        if not self.options.aiger and (is_answer or not self.options.quiet):
+            print(line, flush=True)
+        self.last = line
+
+    def print_claim(self, claim: Claim, prefix: str = "", is_answer: bool = False) -> None:
+        """Prints a line that was checked, and keeps what shows it."""
+        self.print_line(prefix + claim.line + self.source.behind, is_answer)
+        if self.evidence:
+            self.evidence.shows(claim)
+
+    def print_step(self, step: StepShown) -> None:
+        """Prints that steps were shown, unless another engine showed that."""
+        if step.k >= self.board.steps:
+            self.print_claim(step.claim, step.prefix)
+            self.board.steps = step.k + 1
+
+    def print_open(self) -> None:
+        """Prints up to which step all were shown, unless that was the last line."""
+        steps = self.board.steps
+        line = self.source.up_to(steps - 1) if steps else self.source.nothing
+        if line != self.last or self.options.quiet:
+            self.print_line(line, True)
+
+    def print_report(self, status: int) -> None:
+        """Prints what the AIGER report has of a question that ends with this status."""
+        if trace := self.run.trace:
+            print(self.source.of_file(trace).text(), end="", flush=True)
+            return
+        places = "".join(self.source.places(self.job.problem.circuit))
+        reported = {SAFE: 0, UNSAFE: 1, OPEN: 2}[status]
+        print(f"{reported}\n{places}\n.\n", end="", flush=True)
+
+    # Certificates.
+
+    def certify(self, answer: Induction | Certified | CountedRounds) -> None:
+        """Writes a certificate of an answer, if one is wanted."""
+        if not self.options.write_certificate:
+            return
+        circuit = self.job.problem.circuit
+        if isinstance(answer, CountedRounds):
+            self.tell_no_certificate("the answer is about rounds")
+        elif isinstance(answer, Certified):
+            machine = self.job.checker.circuit(answer.machine, "the certificate")
+            self.write_certificate(certificates.by_invariant(circuit, machine))
+        elif answer.question.form:
+            self.tell_no_certificate("the answer is about runs on which no state comes twice")
+        else:
+            self.write_certificate(certificates.by_window(circuit, answer.question.k))
+
+    def write_certificate(self, certificate: bytes) -> None:
+        """Writes a certificate to the file that was named."""
+        if self.options.write_certificate:
+            write(self.options.write_certificate, [certificate])
+
+    def tell_no_certificate(self, why: str) -> None:
+        """Says why no certificate is written, if one is wanted."""
+        if self.options.write_certificate:
+            say(f"no certificate: {why}")

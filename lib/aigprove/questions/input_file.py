@@ -1,0 +1,150 @@
+"""Files as they were named: their bytes are read once, into memory that nobody can write."""
+from __future__ import annotations
+
+import tempfile
+from collections.abc import Iterator, Sequence
+from typing import TYPE_CHECKING
+
+from aigprove.circuits.aiger import Circuit, Fault, Header, Lines, Symbols, decoded, encoded
+from aigprove.designs.front_ends import FRONTS, STANDARD_INPUT, VERILOG, File, kind_of
+from aigprove.options.options import DesignOptions
+from aigprove.output.messages import say
+from aigprove.processes.files import sealed
+from aigprove.processes.sealed import Sealed
+from aigprove.questions.checker import Checker
+
+if TYPE_CHECKING:
+    from aigprove.designs.verilog import Design
+    from aigprove.output.evidence import Evidence
+
+# Options that are for designs alone, or for those that certain front ends read.
+OF_DESIGNS: dict[str, list[str] | None] = {
+    **dict.fromkeys(["top", "reset", "parameter", "black_box", "multiclock"]),
+    **dict.fromkeys(["define", "include"], [VERILOG]),
+}
+
+
+class InputFile:
+    """A file in AIGER form as it was given, and its name among what is kept.
+
+    Of the files of a design one is made first."""
+
+    def __init__(self, paths: Sequence[str], options: DesignOptions, above: str, checker: Checker,
+                 name: str = "file", given: Sequence[Sealed] | None = None) -> None:
+        self.path, self.checker, self.stem = paths[0], checker, name
+        # What was read before is given.
+        self.given = given or [
+            sealed("/dev/stdin" if path == STANDARD_INPUT else path, checker.limit)
+            for path in paths]
+        self.kinds = [kind_of(path, file.line()) for path, file in zip(paths, self.given)]
+        self.check_kinds(paths, options)
+        self.design: Design | None = None
+        if self.kinds[0]:
+            # The patterns that these modules have take long to compile: they are imported if
+            # there is a design, as here.
+            from aigprove.designs import verilog
+
+            folder = tempfile.mkdtemp(prefix="design-", dir=above)
+            files = [File(path, file.data()) for path, file in zip(paths, self.given)]
+            self.design = verilog.Design(files, options, folder, checker.task)
+        self.take(sealed(self.design.file, checker.limit) if self.design else self.given[0])
+        self.say_left_out(options)
+
+    def say_left_out(self, options: DesignOptions) -> None:
+        """Prints what yosys warns of in a design, and what of it isn't asked about, nor later."""
+        if self.design and not options.is_quiet:
+            left_out = self.design.left_out
+            for line in [*self.design.yosys.warnings,
+                         *(line for kind, line in left_out if kind not in options.later)]:
+                say(line)
+
+    def take(self, file: Sealed) -> None:
+        """Takes the file in AIGER form."""
+        self.file, self.line = file, file.line()
+        self.name = f"{self.stem}.{form(self.line)}"
+
+    def check_kinds(self, paths: Sequence[str], options: DesignOptions) -> None:
+        """Refuses a file among several that is of no design, and options for designs alone."""
+        for path, kind in zip(paths, self.kinds):
+            if not kind and len(paths) > 1:
+                ends = ", ".join(FRONTS)
+                raise Fault(f"{path} is no file of a design (those end with {ends})")
+        for option, of in OF_DESIGNS.items():
+            given, known = getattr(options, option), of or FRONTS.values()
+            if given and not any(kind and FRONTS[kind] in known for kind in self.kinds):
+                what = f"so it has no module {given}" if option == "top" \
+                    else f"and --{option.replace('_', '-')} is for these"
+                raise Fault(f"{self.path} is no design{' in Verilog' if of else ''}, {what}")
+
+    def header(self) -> Header:
+        """Returns the header of the file in AIGER form."""
+        return Header(Lines(self.line, "FILE"))
+
+    def circuit(self) -> Circuit:
+        """Returns the circuit that was given, with all its names.
+
+        If a design has several names for one signal, it has the outermost."""
+        circuit = self.checker.circuit(self.file, "FILE")
+        if self.design:
+            circuit.names = {place: outermost(name) for place, name in circuit.names.items()}
+        return circuit
+
+    def symbols(self) -> Circuit | Symbols:
+        """Returns something with the names that the circuit has, in less time if that can be."""
+        return self.circuit() if self.design else Symbols(Lines(self.file.data(), "FILE"))
+
+    def named(self) -> tuple[Circuit, dict[int, list[str]]]:
+        """Returns the circuit of a design with the names of its assertions.
+
+        All names of its registers are returned with it, by their places."""
+        from aigprove.designs.netlist import all_names
+
+        assert self.design
+        circuit, known = self.checker.circuit(self.file, "FILE"), self.design.aliases
+        told = {place[1]: decoded(name) for place, name in circuit.names.items()
+                if place[0] == "l"}
+        names = {place: [it for own in name.split(" ") for it in all_names(own, known)]
+                 for place, name in told.items()}
+        circuit.names = {place: outermost(name) for place, name in circuit.names.items()
+                         if place[0] != "l"}
+        circuit.names.update((("b", i), encoded(it.name))
+                             for i, it in enumerate(self.design.assertions) if it.is_named)
+        return circuit, names
+
+    def warnings(self) -> Iterator[str]:
+        """Yields a line of what the file has that nothing is asked about."""
+        header = self.header()
+        unseen = [*counted(header.justice, "justice property", "justice properties"),
+                  *counted(header.fairness, "fairness constraint")]
+        if unseen:
+            verb = "was" if header.justice + header.fairness == 1 else "were"
+            yield f"{self.path}: {' and '.join(unseen)} {verb} not looked at"
+
+    def about(self) -> Iterator[str]:
+        """Yields the line of what is asked about a design."""
+        if self.design:
+            yield self.design.about()
+
+    def keep(self, evidence: Evidence) -> None:
+        """Keeps the file, and what it was made of."""
+        evidence.put(self.name, self.file)
+        for i, (kind, file) in enumerate(zip(self.kinds, self.given)):
+            if kind:
+                evidence.put(f"{self.name[:-4]}{f'-{i}' if i else ''}{kind}", file)
+            elif file is not self.file:
+                evidence.put(f"{self.stem}-given.{form(file.line())}", file)
+
+
+def counted(number: int, one: str, many: str | None = None) -> list[str]:
+    """Returns how many there are of something, unless there is none."""
+    return [f"{number} {one if number == 1 else many or one + 's'}"] if number else []
+
+
+def outermost(name: bytes) -> bytes:
+    """Returns the name of fewest modules of a signal with several, and of these the shortest."""
+    return min(name.split(b" "), key=lambda it: (it.count(b"."), len(it), it))
+
+
+def form(line: bytes) -> str:
+    """Returns how the name of a file with this first line ends."""
+    return "aag" if line.startswith(b"aag") else "aig"
