@@ -1,2 +1,3 @@
-"""Answers of model checkers, kept apart from what checks them: the package of bin/aigprove and examples/waves.py."""
+"""Answers of model checkers, kept apart from what checks them: the package of bin/aigprove and
+examples/waves.py."""
 VERSION = "0.1.0"

@@ -1,1 +1,2 @@
-"""Circuits in AIGER form: reading, simulating, normalising and writing them, and their witnesses and certificates."""
+"""Circuits in AIGER form: reading, simulating, normalising and writing them, and their witnesses
+and certificates."""

@@ -22,7 +22,8 @@ class Fault(Exception):
 
 
 def decimal(digits: bytes) -> int:
-    """The number that digits spell, however many zeros stand before it; ten digits are enough for any that a file has."""
+    """The number that digits spell, however many zeros stand before it; ten digits are enough for
+    any that a file has."""
     spelled = digits.lstrip(b"0")
     if len(spelled) > 10:
         raise Fault("a number has more than ten digits")
@@ -80,7 +81,8 @@ class Lines:
         """So many lines of so many numbers each, which are read at once."""
         *lines, rest = self.data[self.place:].split(b"\n", count)
         words = b" ".join(lines).split(b" ") if lines else []
-        if len(lines) < count or any(line.count(b" ") != width - 1 for line in lines) or not all(map(bytes.isdigit, words)):
+        if len(lines) < count or any(line.count(b" ") != width - 1
+                                     for line in lines) or not all(map(bytes.isdigit, words)):
             return [self.numbers(width, width) for _ in range(count)]
         try:
             numbers = iter(map(int, words))
@@ -124,10 +126,12 @@ class Header:
 
     def __init__(self, lines: Lines) -> None:
         form, *words = lines.line().split(b" ")
-        if form not in (b"aag", b"aig") or not 5 <= len(words) <= 9 or not all(word.isdigit() for word in words):
+        if form not in (b"aag", b"aig") or not 5 <= len(words) <= 9 or not all(word.isdigit()
+                                                                               for word in words):
             raise Fault(f"bad header line in {lines.what}")
         self.is_text = form == b"aag"
-        # Before version 1.9 a file had no bad state properties, and its outputs were taken for them.
+        # Before version 1.9 a file had no bad state properties, and its outputs were taken for
+        # them.
         self.is_old = len(words) == 5
         self.counts = [*map(decimal, words), *[0] * 4][:9]
         self.inputs, self.latches, self.outputs, self.gates = self.counts[1:5]
@@ -135,7 +139,9 @@ class Header:
 
     def count(self, circuit: Circuit, greatest: int) -> None:
         """Counts again what a circuit has, up to this greatest variable."""
-        of: list[Sequence[object]] = [circuit.inputs, circuit.latches, circuit.outputs, circuit.gates, circuit.bads, circuit.constraints, circuit.justice]
+        of: list[Sequence[object]] = [circuit.inputs,
+                                      circuit.latches, circuit.outputs, circuit.gates,
+                                      circuit.bads, circuit.constraints, circuit.justice]
         self.is_old, self.counts = False, [greatest, *map(len, of), len(circuit.fairness)]
 
 
@@ -144,7 +150,8 @@ class Symbols:
 
     def __init__(self, lines: Lines) -> None:
         header = self.header = Header(lines)
-        lines.skip(header.inputs * header.is_text + header.latches + header.outputs + header.bads + header.constraints)
+        lines.skip(header.inputs * header.is_text + header.latches
+                   + header.outputs + header.bads + header.constraints)
         lines.skip(sum(lines.number() for _ in range(header.justice)) + header.fairness)
         if header.is_text:
             lines.skip(header.gates)
@@ -171,7 +178,8 @@ class Circuit:
             rows = [[latch, *lines.numbers(1, 2)] for latch in range(first_latch, first_gate, 2)]
         self.latches, self.nexts, self.resets = ([[*row, 0][i] for row in rows] for i in range(3))
         counts = [header.outputs, header.bads, header.constraints]
-        self.outputs, self.bads, self.constraints = ([lines.number() for _ in range(count)] for count in counts)
+        self.outputs, self.bads, self.constraints = ([lines.number() for _ in range(count)]
+                                                     for count in counts)
         sizes = [lines.number() for _ in range(header.justice)]
         self.justice = [[lines.number() for _ in range(size)] for size in sizes]
         self.fairness = [lines.number() for _ in range(header.fairness)]
@@ -190,22 +198,27 @@ class Circuit:
         known = {0, *defined}
         if len(known) <= len(defined) or any(literal & 1 for literal in defined):
             raise Fault(f"bad literal of an input, latch or gate in {self.what}")
-        used = [*self.nexts, *self.outputs, *self.bads, *self.constraints, *itertools.chain.from_iterable(row[1:] for row in self.gates)]
+        used = [*self.nexts, *self.outputs, *self.bads,
+                *self.constraints, *itertools.chain.from_iterable(row[1:] for row in self.gates)]
         if unknown := set(used) - known - {literal | 1 for literal in known}:
-            raise Fault(f"literal {next(filter(unknown.__contains__, used))} is not defined in {self.what}")
+            raise Fault(
+                f"literal {next(filter(unknown.__contains__, used))} is not defined in {self.what}")
 
     def put_in_order(self) -> None:
         """Puts each gate behind those that it stands on, where that isn't so."""
         leaves = [0, *self.inputs, *self.latches]
-        places = {literal: i for i, literal in enumerate(itertools.chain(leaves, (gate for gate, _, _ in self.gates)))}
-        if all(places[left & ~1] < i > places[right & ~1] for i, (_, left, right) in enumerate(self.gates, len(leaves))):
+        places = {literal: i for i, literal in enumerate(
+            itertools.chain(leaves, (gate for gate, _, _ in self.gates)))}
+        if all(places[left & ~1] < i > places[right & ~1]
+               for i, (_, left, right) in enumerate(self.gates, len(leaves))):
             return
         gates = {gate: (gate, left, right) for gate, left, right in self.gates}
         known, begun, self.gates = {0, *self.inputs, *self.latches}, set[int](), []
         path = list(reversed(gates))
         while path:
             literal = path[-1]
-            below = [] if literal in known else [under & ~1 for under in gates[literal][1:] if under & ~1 not in known]
+            below = [] if literal in known else [under & ~1 for under in gates[literal][1:]
+                                                 if under & ~1 not in known]
             if not below:
                 path.pop()
                 if literal not in known:
@@ -240,9 +253,11 @@ class Circuit:
         counts = self.header.counts[: 5 if self.header.is_old else 9]
         latches = zip(self.latches, self.nexts, self.resets)
         sets = [*map(len, self.justice), *itertools.chain(*self.justice), *self.fairness]
-        rows = [("aag", *counts), *zip(self.inputs), *latches, *zip([*self.outputs, *self.bads, *self.constraints, *sets]), *self.gates]
+        rows = [("aag", *counts), *zip(self.inputs),
+                *latches, *zip([*self.outputs, *self.bads, *self.constraints, *sets]), *self.gates]
         lines = (" ".join(map(str, row)).encode() for row in rows)
-        names = (b"%s%d %s" % (letter.encode(), i, name) for (letter, i), name in self.names.items())
+        names = (b"%s%d %s" % (letter.encode(), i, name)
+                 for (letter, i), name in self.names.items())
         return b"".join(line + b"\n" for line in itertools.chain(lines, names))
 
     def name(self, letter: str, position: int) -> bytes:
@@ -251,7 +266,8 @@ class Circuit:
 
     def read_by(self, literal: int) -> set[int]:
         """The places of the latches that a literal reads in the same step."""
-        gates, left, seen = {gate: operands for gate, *operands in self.gates}, [literal & ~1], set()
+        gates, left, seen = {gate: operands for gate,
+                             *operands in self.gates}, [literal & ~1], set()
         while left:
             if (it := left.pop()) not in seen:
                 seen.add(it)
@@ -260,7 +276,8 @@ class Circuit:
 
 
 def differences(numbers: Iterable[int]) -> bytes:
-    """Numbers as binary files spell them: groups of seven bits, the lowest first, each but the last with the eighth bit set."""
+    """Numbers as binary files spell them: groups of seven bits, the lowest first, each but the last
+    with the eighth bit set."""
     groups = bytearray()
     for number in numbers:
         while number > 127:
@@ -273,14 +290,16 @@ def differences(numbers: Iterable[int]) -> bytes:
 def binary_gates(lines: Lines, count: int, first: int) -> list[Gate]:
     """So many gates of the binary form from this literal on, by their differences."""
     numbers = lines.differences(2 * count)
-    gates = [(gate, gate - one, gate - one - two) for gate, one, two in zip(itertools.count(first, 2), numbers[::2], numbers[1::2])]
+    gates = [(gate, gate - one, gate - one - two)
+             for gate, one, two in zip(itertools.count(first, 2), numbers[::2], numbers[1::2])]
     if any(right < 0 for *_, right in gates):
         raise Fault(f"bad difference in {lines.what}")
     return gates
 
 
 def names(lines: Lines) -> Names:
-    """The names behind the gates, by letter and position, up to the comment: a c without a digit behind it."""
+    """The names behind the gates, by letter and position, up to the comment: a c without a digit
+    behind it."""
     found = {}
     while not lines.is_read() and not COMMENT.match(lines.data, lines.place):
         symbol = re.fullmatch(rb"([ilobcjf])([0-9]+) (.*)", lines.line(), re.DOTALL)

@@ -1,5 +1,6 @@
-"""Certificates in the form of the hardware model checking competition: a witness circuit, whose first inputs and latches are the file's, in
-order, with their resets and next values, and whose property is inductive and implies the file's. Nothing here is believed."""
+"""Certificates in the form of the hardware model checking competition: a witness circuit, whose
+first inputs and latches are the file's, in order, with their resets and next values, and whose
+property is inductive and implies the file's. Nothing here is believed."""
 from __future__ import annotations
 
 from collections.abc import Callable, Iterable, Iterator, Mapping
@@ -10,7 +11,8 @@ from aigprove.questions.conditions import STANDS
 
 
 class Frame:
-    """A state before the one that there is, in latches of the certificate's own: whether it is kept, its latches and its inputs."""
+    """A state before the one that there is, in latches of the certificate's own: whether it is
+    kept, its latches and its inputs."""
 
     def __init__(self, circuit: Circuit, first: int) -> None:
         self.kept, self.state = first, range(first + 2, first + 2 + 2 * len(circuit.latches), 2)
@@ -34,7 +36,8 @@ class WitnessCircuit:
         size = 2 * (1 + latches + inputs)
         self.frames = [Frame(circuit, self.state.stop + i * size) for i in range(frames)]
         self.gates = Gates(self.state.stop + frames * size)
-        self.literal = self.literals(dict([*zip(circuit.inputs, self.inputs), *zip(circuit.latches, self.state)]))
+        self.literal = self.literals(
+            dict([*zip(circuit.inputs, self.inputs), *zip(circuit.latches, self.state)]))
         self.bads = list(map(self.literal, circuit.bads))
 
     def literals(self, leaves: Mapping[int, int]) -> Callable[[int], int]:
@@ -49,7 +52,8 @@ class WitnessCircuit:
 
     def starts(self, state: Iterable[int]) -> int:
         """The literal that is true where the file's machine can start in a state."""
-        return self.gates.all(literal ^ (reset == 0) for literal, reset in zip(state, self.circuit.resets) if reset < 2)
+        return self.gates.all(literal ^ (reset == 0)
+                              for literal, reset in zip(state, self.circuit.resets) if reset < 2)
 
     def exclude(self, given: Circuit) -> None:
         """Has the states be bad that are bad in a machine with the same latches."""
@@ -63,14 +67,17 @@ class WitnessCircuit:
         for frame in self.frames:
             literal = self.literals(frame.leaves(self.circuit))
             moved = [self.equal(literal(next), now) for next, now in zip(self.circuit.nexts, state)]
-            good = [*moved, *map(literal, self.circuit.constraints), *(literal(bad) ^ 1 for bad in self.circuit.bads)]
+            good = [*moved, *map(literal, self.circuit.constraints),
+                    *(literal(bad) ^ 1 for bad in self.circuit.bads)]
             begins = self.implies(self.gates.both(before, frame.kept ^ 1), self.starts(state))
-            right = [begins, self.implies(frame.kept, before), self.implies(frame.kept, self.gates.all(good))]
+            right = [begins, self.implies(frame.kept, before),
+                     self.implies(frame.kept, self.gates.all(good))]
             self.bads.append(self.gates.all(right) ^ 1)
             before, state = frame.kept, frame.state
 
     def rows(self) -> Iterator[str]:
-        """The lines of the latches: those of the file, and each frame, which gets what the one before has."""
+        """The lines of the latches: those of the file, and each frame, which gets what the one
+        before has."""
         for latch, next, reset in zip(self.state, self.circuit.nexts, self.circuit.resets):
             yield f"{latch} {self.literal(next)} {reset if reset < 2 else latch}"
         before = [1, *self.state, *self.inputs]
@@ -79,15 +86,18 @@ class WitnessCircuit:
             before = frame.literals()
 
     def text(self) -> bytes:
-        """Its text, with the file's names, but for those that would say that its leaves stand for others."""
+        """Its text, with the file's names, but for those that would say that its leaves stand for
+        others."""
         rows, bad = list(self.rows()), self.gates.any(self.bads)
         constraints = list(map(self.literal, self.circuit.constraints))
         gates = [" ".join(map(str, row)) for row in self.gates.rows]
         count = len(self.inputs) + len(rows) + len(gates)
         header = f"aag {count} {len(self.inputs)} {len(rows)} 0 {len(gates)} 1 {len(constraints)}"
-        kept = (it for it in self.circuit.names.items() if it[0][0] in "il" and not it[1].startswith(STANDS))
+        kept = (it for it in self.circuit.names.items()
+                if it[0][0] in "il" and not it[1].startswith(STANDS))
         names = (b"%s%d %s" % (letter.encode(), i, name) for (letter, i), name in kept)
-        lines = [str(line).encode() for line in [header, *self.inputs, *rows, bad, *constraints, *gates]]
+        lines = [str(line).encode()
+                 for line in [header, *self.inputs, *rows, bad, *constraints, *gates]]
         return b"".join(line + b"\n" for line in [*lines, *names])
 
 

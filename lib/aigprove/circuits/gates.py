@@ -54,9 +54,11 @@ class Gates:
 
 def binary(inputs: int, nexts: Sequence[int], outputs: Sequence[int], gates: Gates) -> bytes:
     """The binary form of a machine of so many inputs, whose latches are 0 at first, by literals."""
-    header = f"aig {inputs + len(nexts) + len(gates.rows)} {inputs} {len(nexts)} {len(outputs)} {len(gates.rows)}"
+    count = len(gates.rows)
+    header = f"aig {inputs + len(nexts) + count} {inputs} {len(nexts)} {len(outputs)} {count}"
     lines = "".join(f"{line}\n" for line in [header, *nexts, *outputs])
-    return lines.encode() + differences(number for gate, left, right in gates.rows for number in (gate - left, left - right))
+    return lines.encode() + differences(number for gate, left, right in gates.rows
+                                        for number in (gate - left, left - right))
 
 
 def literals_of(circuit: Circuit, gates: Gates, leaves: Mapping[int, int]) -> Callable[[int], int]:

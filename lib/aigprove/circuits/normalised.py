@@ -1,9 +1,11 @@
-"""The machine of a file as every model checker reads it: all latches 0 at first, outputs that are 1 in bad states, no constraints.
+"""The machine of a file as every model checker reads it: all latches 0 at first, outputs that are 1
+in bad states, no constraints.
 
-A latch that is 1 at first is inverted; one that is open at first takes an input's value at step 0, while the latch `began` is 0;
-and the latch `broken` is 1 once a constraint didn't hold. A machine without latches gets one that is spare. Inputs and latches
-are named by their places in the file (i0, l0), and the value of an open latch l0 is the input r0, so that what an engine says is
-told by names."""
+A latch that is 1 at first is inverted; one that is open at first takes an input's value at step 0,
+while the latch `began` is 0; and the latch `broken` is 1 once a constraint didn't hold. A machine
+without latches gets one that is spare. Inputs and latches are named by their places in the file
+(i0, l0), and the value of an open latch l0 is the input r0, so that what an engine says is told by
+names."""
 from __future__ import annotations
 
 from collections.abc import Mapping, Sequence
@@ -18,8 +20,9 @@ FIXED = {BEGAN: "1", BROKEN: "0", SPARE: "0"}
 
 
 class NormalisedModel:
-    """The plain machine of a circuit, and what is told of it told of the circuit. It has one output for all bad state properties, or
-    one for each."""
+    """The plain machine of a circuit, and what is told of it told of the circuit.
+
+    It has one output for all bad state properties, or one for each."""
 
     def __init__(self, circuit: Circuit, is_apart: bool = False) -> None:
         self.circuit = circuit
@@ -36,9 +39,12 @@ class NormalisedModel:
         allowed = self.gates.all(map(literal, circuit.constraints))
         broken = self.places.get(BROKEN, 0)
         bads = list(map(literal, circuit.bads))
-        self.bads = [self.gates.all([bad, allowed, broken ^ 1]) for bad in (bads if is_apart else [self.gates.any(bads)])]
-        self.nexts = [literal(next) ^ (reset == 1) for next, reset in zip(circuit.nexts, circuit.resets)]
-        self.nexts += [1] * bool(self.opened) + [self.gates.both(broken ^ 1, allowed) ^ 1] * bool(circuit.constraints)
+        self.bads = [self.gates.all([bad, allowed, broken ^ 1])
+                     for bad in (bads if is_apart else [self.gates.any(bads)])]
+        self.nexts = [literal(next) ^ (reset == 1)
+                      for next, reset in zip(circuit.nexts, circuit.resets)]
+        self.nexts += [1] * bool(
+            self.opened) + [self.gates.both(broken ^ 1, allowed) ^ 1] * bool(circuit.constraints)
         self.nexts = self.nexts or [0]
 
     def leaves(self) -> dict[int, int]:
@@ -47,31 +53,36 @@ class NormalisedModel:
         free = {i: 2 * (len(self.circuit.inputs) + 1 + n) for n, i in enumerate(self.opened)}
         for i, (literal, reset) in enumerate(zip(self.circuit.latches, self.circuit.resets)):
             place = self.places[f"l{i}"]
-            leaves[literal] = self.gates.choice(self.places[BEGAN], place, free[i]) if i in free else place ^ (reset == 1)
+            leaves[literal] = self.gates.choice(self.places[BEGAN], place,
+                                                free[i]) if i in free else place ^ (reset == 1)
         return leaves
 
     def binary(self) -> bytes:
         """Its binary form."""
-        names = [f"{letter}{i} {name}\n" for letter, own in [("i", self.inputs), ("l", self.latches)] for i, name in enumerate(own)]
+        names = [f"{letter}{i} {name}\n" for letter,
+                 own in [("i", self.inputs), ("l", self.latches)] for i, name in enumerate(own)]
         return binary(len(self.inputs), self.nexts, self.bads, self.gates) + "".join(names).encode()
 
     def run(self, text: str) -> tuple[str, list[str]]:
-        """The first state and the inputs of each step in a counterexample of the plain machine, as `write_cex -n` of ABC writes
-        it."""
+        """The first state and the inputs of each step in a counterexample of the plain machine, as
+        `write_cex -n` of ABC writes it."""
         named = Named(text)
         resets = enumerate(self.circuit.resets)
-        start = "".join(str(reset) if reset < 2 else named.values.get((0, f"r{i}"), "0") for i, reset in resets)
+        start = "".join(str(reset) if reset < 2 else named.values.get((0, f"r{i}"), "0")
+                        for i, reset in resets)
         return start, named.rows(self.inputs[: len(self.circuit.inputs)])
 
     def of_abc(self) -> list[str]:
-        """The names of the latches as ABC has them of the circuit's own file: those that the file gives, or places."""
+        """The names of the latches as ABC has them of the circuit's own file: those that the file
+        gives, or places."""
         width = len(str(max(len(self.circuit.latches) - 1, 0)))
         named = (self.circuit.names.get(("l", i)) for i in range(len(self.circuit.latches)))
         return [decoded(name) if name else f"lo{i:0{width}}" for i, name in enumerate(named)]
 
     def certificate(self, pla: str, names: Sequence[str] | None = None) -> bytes | None:
-        """The text of a certificate: inputs and latches as the circuit has them, and one bad state property, the states that an
-        invariant of the plain machine excludes, or one whose latches have these names. None where that isn't one of the machine.
+        """The text of a certificate: inputs and latches as the circuit has them, and one bad state
+        property, the states that an invariant of the plain machine excludes, or one whose latches
+        have these names. None where that isn't one of the machine.
 
         Where a latch is open at first, the first states aren't among them."""
         inputs, resets = len(self.circuit.inputs), self.circuit.resets
@@ -83,16 +94,21 @@ class NormalisedModel:
             return None
         bad = gates.any(map(gates.all, excluded))
         if self.opened:
-            bad = gates.both(bad, gates.all(latch ^ (reset == 0) for latch, reset in zip(latches, resets) if reset < 2) ^ 1)
-        header = f"aag {inputs + len(latches) + len(gates.rows)} {inputs} {len(latches)} 0 {len(gates.rows)} 1"
-        states = [f"{latch} {latch} {reset if reset < 2 else latch}" for latch, reset in zip(latches, resets)]
-        lines = [header, *range(2, latches.start, 2), *states, bad, *(" ".join(map(str, row)) for row in gates.rows)]
+            bad = gates.both(bad, gates.all(latch ^ (reset == 0) for latch,
+                                            reset in zip(latches, resets) if reset < 2) ^ 1)
+        count = len(gates.rows)
+        header = f"aag {inputs + len(latches) + count} {inputs} {len(latches)} 0 {count} 1"
+        states = [f"{latch} {latch} {reset if reset < 2 else latch}"
+                  for latch, reset in zip(latches, resets)]
+        lines = [header, *range(2, latches.start, 2),
+                 *states, bad, *(" ".join(map(str, row)) for row in gates.rows)]
         return "".join(f"{line}\n" for line in lines).encode()
 
 
 def excluded_by(pla: str, places: Mapping[str, int]) -> list[list[int]] | None:
-    """The cubes of an invariant in PLA form, as literals, by those of the latches, where the further latches have their fixed
-    values. None where it has no such form, or a name that is none of these."""
+    """The cubes of an invariant in PLA form, as literals, by those of the latches, where the
+    further latches have their fixed values. None where it has no such form, or a name that is none
+    of these."""
     names, excluded = None, []
     for words in filter(None, map(str.split, pla.splitlines())):
         if words[0] == ".ilb":

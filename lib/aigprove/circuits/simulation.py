@@ -1,4 +1,6 @@
-"""Runs of a circuit, simulated in three values, and many trials of one at once. What is believed of a run aigcheck says."""
+"""Runs of a circuit, simulated in three values, and many trials of one at once.
+
+What is believed of a run aigcheck says."""
 from __future__ import annotations
 
 from collections.abc import Iterable, Iterator, Mapping, Sequence
@@ -16,7 +18,8 @@ SIMULATED = 1 << 21
 
 
 class Values:
-    """What is known in a step of each literal: a trial is a bit of `every`, and a literal has those in which it is known to be true."""
+    """What is known in a step of each literal: a trial is a bit of `every`, and a literal has those
+    in which it is known to be true."""
 
     def __init__(self, circuit: Circuit, every: int = 1) -> None:
         rows = [*circuit.latches, *circuit.inputs, *(gate for gate, _, _ in circuit.gates)]
@@ -44,9 +47,11 @@ def sides(t: int, row: Sequence[str], left_out: LeftOut | None, every: int) -> I
         yield own if value == "0" else 0
 
 
-def run(circuit: Circuit, start: Sequence[str], steps: Iterable[Sequence[str]], left_out: LeftOut | None = None, every: int = 1) -> Iterator[Values]:
-    """The values in each step, until the next is asked for. Some trials are without the value at a place: 0 and a latch, or t + 1 and an
-    input of step t."""
+def run(circuit: Circuit, start: Sequence[str], steps: Iterable[Sequence[str]],
+        left_out: LeftOut | None = None, every: int = 1) -> Iterator[Values]:
+    """The values in each step, until the next is asked for.
+
+    Some trials are without the value at a place: 0 and a latch, or t + 1 and an input of step t."""
     values = Values(circuit, every)
     known, first = values.known, 2 + 2 * len(circuit.latches)
     gates = [tuple(map(values.place, row)) for row in circuit.gates]
@@ -57,11 +62,13 @@ def run(circuit: Circuit, start: Sequence[str], steps: Iterable[Sequence[str]], 
             known[2:first] = [known[place] for place in nexts]
         known[first:first + 2 * len(circuit.inputs)] = sides(t, given, left_out, every)
         for gate, left, right in gates:
-            known[gate], known[gate + 1] = known[left] & known[right], known[left ^ 1] | known[right ^ 1]
+            known[gate], known[gate + 1] = known[left] & known[
+                right], known[left ^ 1] | known[right ^ 1]
         yield values
 
 
-def trials(circuit: Circuit, trace: Witness, bads: Iterable[int], left_out: LeftOut, every: int) -> int:
+def trials(circuit: Circuit, trace: Witness,
+           bads: Iterable[int], left_out: LeftOut, every: int) -> int:
     """The trials of a run that meet every constraint and end where these bad states are."""
     shown = every
     for values in run(circuit, trace.start, trace.steps, left_out, every):

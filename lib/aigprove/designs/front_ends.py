@@ -4,9 +4,11 @@ from __future__ import annotations
 import re
 from typing import NamedTuple
 
-# By the end of a file's name: what reads it, with the words for what is Verilog. The latches of BLIF have one clock.
+# By the end of a file's name: what reads it, with the words for what is Verilog. The latches of
+# BLIF have one clock.
 VERILOG = "read_verilog {words} -formal -sv {include} {file}"
-SCRIPT = "verilog_defaults -push\nverilog_defaults -add {inner}\nscript {file}\nverilog_defaults -pop"
+SCRIPT = "verilog_defaults -push\nverilog_defaults -add {inner}\n" \
+    "script {file}\nverilog_defaults -pop"
 BLIF = ".blif"
 FRONTS = {
     **dict.fromkeys([".v", ".sv", ".vh", ".svh"], VERILOG),
@@ -18,8 +20,9 @@ STANDARD_INPUT = "-"
 
 
 class Way(NamedTuple):
-    """A way in which yosys reads Verilog: the words for it and those for it in scripts, and what the files end with. Of lines that say whether
-    nets may be implicit the last counts for the whole file."""
+    """A way in which yosys reads Verilog: the words for it and those for it in scripts, and what
+    the files end with. Of lines that say whether nets may be implicit the last counts for the whole
+    file."""
 
     words: str
     inner: str
@@ -27,14 +30,16 @@ class Way(NamedTuple):
 
 
 NONE, WIRE = b"\n\n`default_nettype none\n", b"\n\n`default_nettype wire\n"
-# Where names without a declaration are refused; where they are nets, and what yosys reads is shown; the same of texts whose macros are
-# expanded; and where such names were declared, perhaps some of them later, by yosys.
+# Where names without a declaration are refused; where they are nets, and what yosys reads is shown;
+# the same of texts whose macros are expanded; and where such names were declared, perhaps some of
+# them later, by yosys.
 STRICT = Way("-ppdump -noautowire", "-ppdump -noautowire", NONE)
 LOOKING = Way("-ppdump -dump_ast1", "-dump_ast1", WIRE)
 AGAIN = Way("-nopp -dump_ast1", "-dump_ast1", WIRE)
 DECLARED, DECLARED_LATER = Way("-nopp -noautowire", "", NONE), Way("-nopp", "", WIRE)
 # What yosys says of such a name where it is refused, and where it isn't.
-REFUSED = re.compile(r"^(.*): ERROR: Identifier `(\S+)' is implicitly declared and `default_nettype is set to none\.", re.MULTILINE)
+REFUSED = re.compile(r"^(.*): ERROR: Identifier `(\S+)' is implicitly declared and "
+                     r"`default_nettype is set to none\.", re.MULTILINE)
 WARNED = re.compile(r"^(.*): Warning: Identifier `(\S+)' is implicitly declared\.$", re.MULTILINE)
 ASSERT, COVER, LIVE, FAIR = "$assert", "$cover", "$live", "$fair"
 
@@ -52,7 +57,9 @@ class File(NamedTuple):
 
 
 def kind_of(path: str, data: bytes) -> str | None:
-    """The end of a file's name that says what reads it, or None of one in AIGER form. What standard input has is seen by how it begins."""
+    """The end of a file's name that says what reads it, or None of one in AIGER form.
+
+    What standard input has is seen by how it begins."""
     if path == STANDARD_INPUT:
         return None if data.startswith((b"aag ", b"aig ")) else ".v"
     return next((end for end in FRONTS if path.endswith(end)), None)

@@ -1,9 +1,11 @@
 """Names that a design uses and doesn't declare.
 
-Yosys takes each of them for a net of one bit, whatever it stands for. So a design is first read in a way in which yosys refuses them. Where
-it has some, it is read again, which shows what they are: a path to a signal in an instance becomes a declared net of the same range and
-sign, which yosys joins with that signal when it flattens the design; an implicit net of Verilog becomes a declared one of one bit; and each
-other name is refused. Then the design is read once more, with these declarations, and again yosys refuses what isn't declared."""
+Yosys takes each of them for a net of one bit, whatever it stands for. So a design is first read in
+a way in which yosys refuses them. Where it has some, it is read again, which shows what they are: a
+path to a signal in an instance becomes a declared net of the same range and sign, which yosys joins
+with that signal when it flattens the design; an implicit net of Verilog becomes a declared one of
+one bit; and each other name is refused. Then the design is read once more, with these declarations,
+and again yosys refuses what isn't declared."""
 from __future__ import annotations
 
 import collections
@@ -13,16 +15,18 @@ from typing import TYPE_CHECKING, NamedTuple
 
 from aigprove.circuits.aiger import Fault, encoded
 from aigprove.designs.front_ends import DECLARED, DECLARED_LATER, REFUSED, WARNED
-from aigprove.designs.netlist import INTERFACE, check_names, modules_of, source_of
+from aigprove.designs.rtlil import INTERFACE, check_names, modules_of, source_of
 from aigprove.designs.texts import Text
 
 if TYPE_CHECKING:
     from aigprove.designs.yosys import Yosys
 
 # A node of a syntax tree, as yosys prints it.
-NODE = re.compile(r"^( *)AST_(\w+) <(.*):(\d+)\.\d+-\d+\.\d+> \[0x[0-9a-f]+\](?: str='(\S*?)'(?= |$))?(?: bits='([01xz]*)')?", re.MULTILINE)
+NODE = re.compile(r"^( *)AST_(\w+) <(.*):(\d+)\.\d+-\d+\.\d+> \[0x[0-9a-f]+\]"
+                  r"(?: str='(\S*?)'(?= |$))?(?: bits='([01xz]*)')?", re.MULTILINE)
 GENERATED = {"GENBLOCK", "GENFOR", "GENIF", "GENCASE"}
-# What a module has, in yosys's own language: nets that the design names, with what stands before them, and cells, memories and parameters.
+# What a module has, in yosys's own language: nets that the design names, with what stands before
+# them, and cells, memories and parameters.
 NET = re.compile(r"((?:\n  attribute [^\n]*)*)\n  wire ((?:[a-z]+ (?:-?[0-9]+ )?)*)(\\\S+)(?=\n)")
 CELL = re.compile(r"\n  cell (\S+) (\\\S+)(?=\n)")
 OTHER = re.compile(r"\n  (memory|parameter) (?:[a-z]+ -?[0-9]+ )*(\\\S+)(?=[ \n])")
@@ -38,7 +42,8 @@ OUTPUTS = {f"\\{port}" for port in ["Y", "Q", "X", "CO", "LO", "O", "DATA", "RD_
 INDEX = re.compile(r"(.*)\[[0-9]+\]")
 # Attributes of a net that yosys may drop where it joins the net with another.
 HARMLESS = re.compile(r"src|wiretype|enum_\w+|hdlname|hierconn|aigprove_unknown")
-ABOVE = "a name is read if its path goes down from the module in which it stands, through instances and named blocks, to a net or variable"
+ABOVE = "a name is read if its path goes down from the module in which it stands, " \
+    "through instances and named blocks, to a net or variable"
 LATER = "its block is read later: use it behind the block"
 UNKNOWN_NAME = "declare it, or correct its spelling"
 
@@ -55,7 +60,8 @@ class Shape(NamedTuple):
     def of(cls, words: str) -> Shape:
         """The shape of a net with these words in yosys's own language."""
         it = words.split()
-        width, offset = (int(it[it.index(word) + 1]) if word in it else least for word, least in [("width", 1), ("offset", 0)])
+        width, offset = (int(it[it.index(word) + 1]) if word in it else least
+                         for word, least in [("width", 1), ("offset", 0)])
         return cls(width, offset, "upto" in it, "signed" in it)
 
     def __str__(self) -> str:
@@ -100,7 +106,8 @@ class Module:
 
     def __init__(self, text: str) -> None:
         self.text = text
-        nets = [Net(name, Shape.of(words), tuple(words.split()), *attributed(before)) for before, words, name in NET.findall(text)]
+        nets = [Net(name, Shape.of(words), tuple(words.split()), *attributed(before))
+                for before, words, name in NET.findall(text)]
         self.nets = {net.name: net for net in nets}
         self.cells = {name: kind for kind, name in CELL.findall(text)}
         self.others = {name: kind for kind, name in OTHER.findall(text)}
@@ -111,7 +118,9 @@ class Module:
 
     def without(self, name: str) -> str:
         """Drops a net that nothing uses, and gives the text then."""
-        self.text = re.sub(rf"(?:\n  attribute [^\n]*)*\n  wire (?:[^\n]* )?{re.escape(name)}(?=\n)", "", self.text, count=1)
+        self.text = re.sub(
+            rf"(?:\n  attribute [^\n]*)*\n  wire (?:[^\n]* )?{re.escape(name)}(?=\n)",
+            "", self.text, count=1)
         return self.text
 
     def is_output(self, port: str) -> bool:
@@ -155,11 +164,14 @@ def nodes(said: str) -> Iterator[tuple[Node, list[Node]]]:
 
 
 def use_of(node: Node, above: list[Node]) -> Use:
-    """What a name's node says of it: a port of an instance or of a gate declares a net, and so does the left side of an assignment."""
+    """What a name's node says of it: a port of an instance or of a gate declares a net, and so does
+    the left side of an assignment."""
     kinds = [it.kind for it in above]
     inner = kinds[len(kinds) - kinds[::-1].index("ASSIGN"):] if "ASSIGN" in kinds else None
-    is_left = inner is not None and set(inner) <= {"CONCAT"} and is_first([*above, node], len(above) - len(inner) - 1)
-    is_port = any(pair in zip(kinds, kinds[1:]) for pair in [("CELL", "ARGUMENT"), ("PRIMITIVE", "ARGUMENT")])
+    is_left = inner is not None and set(inner) <= {"CONCAT"} and is_first(
+        [*above, node], len(above) - len(inner) - 1)
+    is_port = any(pair in zip(kinds, kinds[1:])
+                  for pair in [("CELL", "ARGUMENT"), ("PRIMITIVE", "ARGUMENT")])
     return Use(node.place, is_left or is_port and node.line > 0, bool(GENERATED & set(kinds)))
 
 
@@ -172,7 +184,8 @@ class Trees:
     """What the syntax trees of all modules say, as they are before yosys changes them."""
 
     def __init__(self, said: str) -> None:
-        # By the module and the name: its uses in order; names that are selected of; and arrays of instances whose last index isn't 0.
+        # By the module and the name: its uses in order; names that are selected of; and arrays of
+        # instances whose last index isn't 0.
         self.uses, self.selected, self.arrays = collections.defaultdict(list), set(), set()
         for node, above in nodes(said):
             module = next((it.name[1:] for it in above if it.kind == "MODULE"), None)
@@ -180,11 +193,13 @@ class Trees:
                 self.uses[module, node.name].append(use_of(node, above))
             if node.kind == "RANGE" and above[-1].kind == "IDENTIFIER":
                 self.selected.add((module, above[-1].name))
-            if node.kind == "CELL" and above[-1].kind == "CELLARRAY" and not ends_with_0(above[-1].children[0]):
+            if node.kind == "CELL" and above[
+                    -1].kind == "CELLARRAY" and not ends_with_0(above[-1].children[0]):
                 self.arrays.add((module, node.name[1:]))
 
     def check_net(self, module: str, name: str) -> None:
-        """Refuses a name that is no implicit net of Verilog: its first use in the module has to declare it, outside of what is generated."""
+        """Refuses a name that is no implicit net of Verilog: its first use in the module has to
+        declare it, outside of what is generated."""
         uses = self.uses[module, name]
         if not any(use.is_declaring for use in uses):
             raise Fault(UNKNOWN_NAME)
@@ -193,7 +208,8 @@ class Trees:
         if not uses[0].is_declaring:
             raise Fault("it is used before the port that makes it an implicit net: declare it")
         if uses[0].is_local:
-            raise Fault("yosys takes an implicit net of a block for one of the module: declare it in the block")
+            raise Fault("yosys takes an implicit net of a block for one of the module: "
+                        "declare it in the block")
 
 
 def ends_with_0(bounds: Node) -> bool:
@@ -203,13 +219,16 @@ def ends_with_0(bounds: Node) -> bool:
 
 
 class Hierarchy:
-    """All modules of a design in yosys's own language, in which names are looked up: those with these places aren't declared."""
+    """All modules of a design in yosys's own language, in which names are looked up: those with
+    these places aren't declared."""
 
     def __init__(self, text: str, trees: Trees, places: set[tuple[str, str]]) -> None:
-        self.modules, self.trees, self.places = {name: Module(own) for name, own in modules_of(text).items()}, trees, places
+        self.modules, self.trees, self.places = {name: Module(own) for name,
+                                                 own in modules_of(text).items()}, trees, places
 
     def found(self, kind: str, path: str) -> Iterator[tuple[str, str]]:
-        """What a path down from a module may be: pairs of a module and the name there of a net, or of what can't be read."""
+        """What a path down from a module may be: pairs of a module and the name there of a net, or
+        of what can't be read."""
         module = self.modules.get(kind)
         if module is None:
             return
@@ -222,18 +241,22 @@ class Hierarchy:
                 yield from self.found(cell, path[end + 1:])
 
     def is_declared(self, net: Net | None) -> bool:
-        """Whether the design declares a net, or Verilog does: a path that yosys took for a net isn't one."""
+        """Whether the design declares a net, or Verilog does: a path that yosys took for a net
+        isn't one."""
         is_path = net is not None and "." in net.name and (net.place, net.name) in self.places
         return net is not None and not is_path and not {JOINED, UNKNOWN} & set(net.attributes)
 
     def implicit(self, kind: str) -> list[Net]:
         """The nets of a module that yosys declared by itself."""
-        return [net for net in self.modules[kind].nets.values() if (net.place, net.name) in self.places]
+        return [net
+                for net in self.modules[kind].nets.values() if (net.place, net.name) in self.places]
 
     def is_of_interface(self, kind: str, net: Net) -> bool:
-        """Whether a net of a module is of one of its interfaces: yosys declares it later, when it knows the interface."""
+        """Whether a net of a module is of one of its interfaces: yosys declares it later, when it
+        knows the interface."""
         module, first = self.modules[kind], net.name.partition(".")[0]
-        return first in module.nets and "is_interface" in module.nets[first].attributes or self.is_interface(module.cells.get(first))
+        return first in module.nets and "is_interface" in module.nets[
+            first].attributes or self.is_interface(module.cells.get(first))
 
     def is_interface(self, kind: str | None) -> bool:
         """Whether a module is an interface."""
@@ -244,7 +267,8 @@ class Hierarchy:
         last = cell.rpartition(".")[2]
         found = INDEX.fullmatch(last)
         if found and (source_of(kind), found[1]) in self.trees.arrays:
-            raise Fault(f"{cell} is of an array of instances whose last index isn't 0, and yosys numbers them from 0: write it as [N:0]")
+            raise Fault(f"{cell} is of an array of instances whose last index isn't 0, "
+                        "and yosys numbers them from 0: write it as [N:0]")
 
     def signal(self, kind: str, path: str) -> Shape:
         """The net that a path down from a module is: its shape."""
@@ -254,29 +278,34 @@ class Hierarchy:
         (owner, name), = found
         module = self.modules[owner]
         if name in module.others:
-            raise Fault(f"it is a {module.others[name]} of {source_of(owner)}, and nets and variables are read: let a net have its value")
+            raise Fault(f"it is a {module.others[name]} of {source_of(owner)}, "
+                        "and nets and variables are read: let a net have its value")
         net = module.nets[name]
         if lost := [it for it in net.attributes if not HARMLESS.fullmatch(it)]:
-            raise Fault(f"yosys would drop its attribute {lost[0]}: let a net without one have its value")
+            raise Fault(
+                f"yosys would drop its attribute {lost[0]}: let a net without one have its value")
         return net.shape
 
 
 class Names:
-    """The declarations of the names that a design uses without any, by its modules and their names; what they stand for is refused where that
-    isn't clear."""
+    """The declarations of the names that a design uses without any, by its modules and their names;
+    what they stand for is refused where that isn't clear."""
 
     def __init__(self, yosys: Yosys, texts: Mapping[str, bytes], said: str) -> None:
         self.yosys, self.texts = yosys, {path: Text(text) for path, text in texts.items()}
         self.places, self.trees = warned(said), Trees(said)
         self.declared = collections.defaultdict[str, dict[str, str]](dict)
         self.known: dict[tuple[str, str], Net] = {}
-        self.forbidding = {name for text in self.texts.values() for name, *_, is_allowed in text.spans() if not is_allowed}
+        self.forbidding = {name for text in self.texts.values()
+                           for name, *_, is_allowed in text.spans() if not is_allowed}
         self.text = yosys.text("below.il")
-        below, every = (Hierarchy(text, self.trees, self.places) for text in [self.text, yosys.text("all.il")])
+        below, every = (Hierarchy(text, self.trees, self.places)
+                        for text in [self.text, yosys.text("all.il")])
         for kind, net in ((kind, net) for kind in below.modules for net in below.implicit(kind)):
             self.declare(below, kind, net)
         # What a module has that isn't used, or not so: a name there stands for nothing.
-        others = [(kind, net) for kind in every.modules for net in every.implicit(kind) if (source_of(kind), net.name) not in self.known]
+        others = [(kind, net) for kind in every.modules
+                  for net in every.implicit(kind) if (source_of(kind), net.name) not in self.known]
         of_interfaces = {(kind, net) for kind, net in others if every.is_of_interface(kind, net)}
         for kind, net in others:
             if (kind, net) not in of_interfaces:
@@ -298,19 +327,22 @@ class Names:
             self.declared[base][net.name] = "wire "
             return
         # A path may begin with the name of the module in which it stands.
-        own = name.partition(".")[2] if name.startswith(f"{base}.") and not list(hierarchy.found(kind, name)) else name
+        own = name.partition(".")[
+            2] if name.startswith(f"{base}.") and not list(hierarchy.found(kind, name)) else name
         try:
             line = f"(* hierconn *) wire {hierarchy.signal(kind, own)}"
         except Fault as why:
             raise self.fault(net, why) from None
         if self.declared[base].setdefault(f"\\{own}", line) != line:
-            raise self.fault(net, f"in instances of {base} it has different ranges or signs: let each have a module of its own")
+            raise self.fault(net, f"in instances of {base} it has different ranges or signs: "
+                             "let each have a module of its own")
         self.known[base, f"\\{own}"] = net
 
     def check_net(self, base: str, net: Net) -> None:
         """Refuses a name that is no implicit net of Verilog."""
         if net.name.startswith("\\$"):
-            raise self.fault(net, "yosys has no such system function; a net without a driver has any value in each step")
+            raise self.fault(net, "yosys has no such system function; "
+                             "a net without a driver has any value in each step")
         try:
             self.trees.check_net(base, net.name)
         except Fault as why:
@@ -319,7 +351,8 @@ class Names:
             raise self.fault(net, "`default_nettype none forbids implicit nets")
 
     def unknown(self, said: str) -> Fault | None:
-        """The fault that a name isn't declared, where yosys says so of one that it hadn't taken for a net; else None."""
+        """The fault that a name isn't declared, where yosys says so of one that it hadn't taken for
+        a net; else None."""
         found = REFUSED.search(said)
         if not found:
             return None
@@ -329,18 +362,22 @@ class Names:
 
     def declaring(self) -> dict[str, bytes]:
         """The texts of the Verilog files with these declarations."""
-        lines = {module: encoded("".join(f"{line}{name} ; " for name, line in own.items())) for module, own in self.declared.items()}
+        lines = {module: encoded("".join(f"{line}{name} ; " for name, line in own.items()))
+                 for module, own in self.declared.items()}
         return {path: text.with_lines(lines) for path, text in self.texts.items()}
 
     def checked(self, text: str, said: str) -> str:
-        """The design as yosys read it with these declarations, without those that a module doesn't use, once it is checked that each other
-        one is what it is joined with, and that nothing is written by it. Yosys said this of it."""
+        """The design as yosys read it with these declarations, without those that a module doesn't
+        use, once it is checked that each other one is what it is joined with, and that nothing is
+        written by it. Yosys said this of it."""
         hierarchy = Hierarchy(text, self.trees, warned(said))
         for kind, module in hierarchy.modules.items():
             for net in hierarchy.implicit(kind):
                 if net.name not in self.declared[source_of(kind)] or "." in net.name:
-                    raise self.fault(net, "where a script of yosys reads it, or a module has interfaces, it has to be declared")
-            for net in [it for it in module.nets.values() if {JOINED, UNKNOWN} & set(it.attributes)]:
+                    raise self.fault(net, "where a script of yosys reads it, or a module has "
+                                     "interfaces, it has to be declared")
+            for net in [it
+                        for it in module.nets.values() if {JOINED, UNKNOWN} & set(it.attributes)]:
                 if module.is_used(net.name):
                     self.check(hierarchy, kind, net)
                 else:
@@ -352,7 +389,8 @@ class Names:
         """Refuses a declared net that isn't what it is joined with, or that is written."""
         first = self.known.get((source_of(kind), net.name), net)
         try:
-            is_same = UNKNOWN not in net.attributes and hierarchy.signal(kind, net.name[1:]) == net.shape
+            is_same = UNKNOWN not in net.attributes and hierarchy.signal(kind,
+                                                                         net.name[1:]) == net.shape
         except Fault as why:
             raise self.fault(first, why) from None
         if not is_same:

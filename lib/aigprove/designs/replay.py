@@ -1,4 +1,5 @@
-"""A run that yosys simulated: the values of all signals of a design, and which of them an assertion reads."""
+"""A run that yosys simulated: the values of all signals of a design, and which of them an assertion
+reads."""
 from __future__ import annotations
 
 import collections
@@ -25,7 +26,8 @@ CLOCKED = re.compile(r"\$[a-z]*ff|\$_[A-Z]*FF")
 
 
 class Read(NamedTuple):
-    """A signal that an assertion reads, how many steps before, and whether it does so by no other signal that has a name."""
+    """A signal that an assertion reads, how many steps before, and whether it does so by no other
+    signal that has a name."""
 
     name: str
     back: int
@@ -33,7 +35,8 @@ class Read(NamedTuple):
 
 
 def values_of(text: str, wanted: Container[str]) -> list[dict[str, str]]:
-    """The values of these signals in each step, the highest bit first, in a value change dump of yosys's."""
+    """The values of these signals in each step, the highest bit first, in a value change dump of
+    yosys's."""
     scopes: list[str] = []
     codes = collections.defaultdict[str, list[str]](list)
     now: dict[str, str] = {}
@@ -90,12 +93,14 @@ class Module:
         return cell is not None and bool(CLOCKED.match(cell["type"]))
 
     def read_by(self, name: str) -> list[Read]:
-        """What the assertion of this name reads, up to registers and inputs, the nearest first: registers without a name are those that
-        yosys makes of an assertion at a clock's edge, which reads what was there a step before. With several clocks each register has such
-        ones that hold its last value, so each is passed once: a way around that goes back without an end."""
+        """What the assertion of this name reads, up to registers and inputs, the nearest first:
+        registers without a name are those that yosys makes of an assertion at a clock's edge, which
+        reads what was there a step before. With several clocks each register has such ones that
+        hold its last value, so each is passed once: a way around that goes back without an end."""
         cell = self.module["cells"].get(name)
         ports = cell["connections"] if cell else {}
-        left = collections.deque((bit, 0, True) for port in ("A", "EN") for bit in ports.get(port, []) if not isinstance(bit, str))
+        left = collections.deque((bit, 0, True) for port in ("A", "EN")
+                                 for bit in ports.get(port, []) if not isinstance(bit, str))
         seen, passed = set(left), set[tuple[Bit, bool]]()
         found: dict[tuple[str, int], Read] = {}
         while left and len(found) < MOST:
@@ -109,7 +114,8 @@ class Module:
             passed.update([(bit, is_direct)] * is_clocked)
             for port, bits in maker["connections"].items():
                 if maker["port_directions"].get(port) != "output" and port != "CLK":
-                    for it in ((bit, back + is_clocked, is_direct and not own) for bit in bits if not isinstance(bit, str)):
+                    for it in ((bit, back + is_clocked, is_direct and not own)
+                               for bit in bits if not isinstance(bit, str)):
                         if it not in seen:
                             seen.add(it)
                             left.append(it)
@@ -117,7 +123,8 @@ class Module:
 
 
 def read_as(name: str) -> str:
-    """The name with which a signal is read in the design, also of what a register, or a bit of one, holds beside that."""
+    """The name with which a signal is read in the design, also of what a register, or a bit of one,
+    holds beside that."""
     return BIT.sub(r"\1", name).removesuffix(STORED) if STORED in name else name
 
 
@@ -131,19 +138,23 @@ class Replay:
         self.module, self.trace = design.module, trace
         name, last = design.assertions[trace.bad][0], len(trace.steps) - 1
         reads = self.module.read_by(name)
-        held = {f"l{i}": circuit.name("l", i).decode("utf-8", "replace") for i in range(len(circuit.latches))}
+        held = {f"l{i}": circuit.name("l", i).decode("utf-8", "replace")
+                for i in range(len(circuit.latches))}
         bits = {place: BIT.fullmatch(name) for place, name in held.items()}
         words = {place: found[1] if found else held[place] for place, found in bits.items()}
-        inputs = {BIT.sub(r"\1", circuit.name("i", i).decode("utf-8", "replace")) for i in range(len(circuit.inputs))}
+        inputs = {BIT.sub(r"\1", circuit.name("i", i).decode("utf-8", "replace"))
+                  for i in range(len(circuit.inputs))}
         # What a register holds beside its name in the design is another's value in the step before.
         names = list(dict.fromkeys(it.name for it in reads))
-        seen = [name for name in names if name not in inputs and read_as(name) not in set(names) - {name}]
+        seen = [name for name in names
+                if name not in inputs and read_as(name) not in set(names) - {name}]
         self.values = values_of(self.dump, {*names, *words.values()})
         self.latches = {int(place[1:]) for place, name in words.items() if name in names}
         at_first = {words[f"l{i}"] for i in self.latches}
         self.changes = {t: self.changed(t, seen, at_first) for t in range(last + 1)}
         self.direct = [it for it in reads if it.is_direct and it.name not in inputs]
-        self.trouble = self.differing(circuit, held, words) or self.other(design, failed, f"{design.top}.{name} (")
+        self.trouble = self.differing(circuit, held, words) or self.other(design, failed,
+                                                                          f"{design.top}.{name} (")
 
     def shown(self, name: str, t: int) -> str:
         """A signal's value in a step, as it is printed."""
@@ -151,29 +162,41 @@ class Replay:
         return f"{word(name)}={number(list(reversed(bits.rjust(self.module.width(name), '0'))))}"
 
     def changed(self, t: int, names: Iterable[str], at_first: Container[str]) -> list[str]:
-        """The signals whose values are others than in the step before; of the first step those that aren't among what is there at first."""
-        return [self.shown(name, t) for name in names if (self.shown(name, t) != self.shown(name, t - 1) if t else name not in at_first)]
+        """The signals whose values are others than in the step before; of the first step those that
+        aren't among what is there at first."""
+        return [self.shown(name, t) for name in names
+                if (self.shown(name, t) != self.shown(name, t - 1) if t else name not in at_first)]
 
     def read(self, last: int) -> Iterator[str]:
-        """A line of the values that the assertion read, where it failed in this step, by the step in which it read them."""
+        """A line of the values that the assertion read, where it failed in this step, by the step
+        in which it read them."""
         for back in sorted({it.back for it in self.direct}):
-            values = [self.shown(it.name, last - back) for it in self.direct if it.back == back and back <= last]
+            values = [self.shown(it.name, last - back)
+                      for it in self.direct if it.back == back and back <= last]
             if values:
                 yield f"in step {last - back} it reads {' '.join(values)}"
 
     def other(self, design: Design, failed: Sequence[str], name: str) -> str | None:
         """What fails where yosys runs the design, if that isn't the assertion of this name."""
-        return None if any(it.startswith(name) for it in failed) else f"{design.yosys.told(' and '.join(failed)) or 'none'} fails"
+        return None if any(
+            it.startswith(name)
+            for it in failed) else f"{design.yosys.told(' and '.join(failed)) or 'none'} fails"
 
-    def differing(self, circuit: Circuit, held: Mapping[str, str], words: Mapping[str, str]) -> str | None:
-        """A register that has another value where yosys runs the design than in the file, if there is one."""
+    def differing(self, circuit: Circuit,
+                  held: Mapping[str, str], words: Mapping[str, str]) -> str | None:
+        """A register that has another value where yosys runs the design than in the file, if there
+        is one."""
         steps = [row.replace("x", "0") for row in self.trace.steps]
-        for t, values in enumerate(simulation.run(circuit, self.trace.start.replace("x", "0"), steps)):
+        for t, values in enumerate(simulation.run(circuit,
+                                                  self.trace.start.replace("x", "0"), steps)):
             for i, latch in enumerate(circuit.latches):
                 name, found = words[f"l{i}"], BIT.fullmatch(held[f"l{i}"])
                 if t < len(self.values) and name in self.values[t]:
                     own = self.values[t][name].rjust(self.module.width(name), "0")
-                    place = self.module.place(name, int(found[2])) if found and found[1] == name else 0
+                    place = self.module.place(name,
+                                              int(found[2])) if found and found[1] == name else 0
                     if 0 <= place < len(own) and own[-1 - place] not in ("x", values[latch]):
-                        return f"{held[f'l{i}']} is {own[-1 - place]} in step {t}, and {values[latch]} by the file"
+                        found_value = own[-1 - place]
+                        return f"{held[f'l{i}']} is {found_value} in step {t}, " \
+                            f"and {values[latch]} by the file"
         return None

@@ -1,5 +1,5 @@
-"""Texts in Verilog once their macros are expanded: which modules they have, and what yosys reads otherwise than Verilog has it, without a
-word. That is refused, by its place."""
+"""Texts in Verilog once their macros are expanded: which modules they have, and what yosys reads
+otherwise than Verilog has it, without a word. That is refused, by its place."""
 from __future__ import annotations
 
 import collections
@@ -9,17 +9,22 @@ from collections.abc import Iterable, Iterator, Mapping
 from aigprove.circuits.aiger import Fault, decoded
 
 # What yosys prints of a file whose macros are expanded.
-EXPANDED = re.compile(rb"^-- Verilog code after preprocessor --\n(.*?)^-- END OF DUMP --$\n?", re.MULTILINE | re.DOTALL)
+EXPANDED = re.compile(rb"^-- Verilog code after preprocessor --\n(.*?)^-- END OF DUMP --$\n?",
+                      re.MULTILINE | re.DOTALL)
 MARKS = [b"-- Verilog code after preprocessor --", b"-- END OF DUMP --"]
 # What is no word of a text; and its words.
 SPACE = re.compile(
-    rb'/\*\s*(?:synopsys|synthesis)\s+translate_off\s*\*/.*?/\*\s*(?:synopsys|synthesis)\s+translate_on\s*\*/'
-    rb'|/\*(?!\s*(?:synopsys|synthesis)\s+translate_off\s*\*/).*?\*/|//[^\n]*|"(?:\\.|[^"\\\n])*"', re.DOTALL
+    rb'/\*\s*(?:synopsys|synthesis)\s+translate_off\s*\*/.*?'
+    rb'/\*\s*(?:synopsys|synthesis)\s+translate_on\s*\*/'
+    rb'|/\*(?!\s*(?:synopsys|synthesis)\s+translate_off\s*\*/).*?\*/'
+    rb'|//[^\n]*|"(?:\\.|[^"\\\n])*"', re.DOTALL
 )
 PUSHED = re.compile(rb'^`file_push "(.*)"$|^`file_pop[^\n]*\n|\n', re.MULTILINE)
 FOLDER = re.compile(rb'(`file_push "/proc/self/fd/)(\d+)')
-WORD = re.compile(rb"`default_nettype[ \t]+\w+|`file_(?:push|pop)[^\n]*|`\w+|\\[^\s]+|[A-Za-z_$][\w$]*")
-TYPED, INITIAL, BIND = (re.compile(rb"(?<![\w$.`])(%s)\b" % word) for word in [b"typedef", b"initial", b"bind"])
+WORD = re.compile(
+    rb"`default_nettype[ \t]+\w+|`file_(?:push|pop)[^\n]*|`\w+|\\[^\s]+|[A-Za-z_$][\w$]*")
+TYPED, INITIAL, BIND = (re.compile(rb"(?<![\w$.`])(%s)\b" % word)
+                        for word in [b"typedef", b"initial", b"bind"])
 # What ends a statement, or a part of it; `always` without an event; and what is bound to a module.
 PART = re.compile(rb"\b(?:begin|end|else)\b|;")
 ALWAYS = re.compile(rb"(?<![\w$.`])(always)\b(?!\s*@)")
@@ -29,12 +34,15 @@ OPERATORS = rb"(?!(?:or|and|inside|dist|iff|else|matches|with|end)\b)"
 DELAY = "a delay in an initial block isn't read, nor when what is behind it happens"
 ENDLESS = "yosys reads always without an event as a combinational block: let a clock be an input"
 UNENDED = "a comment isn't ended"
-DIMENSIONS = "yosys drops the dimensions of a variable whose type has a name: let the type have them"
-BINDING = "bind is read where it names a module of the files, and one instance: write the instance into the module"
+DIMENSIONS = "yosys drops the dimensions of a variable whose type has a name: " \
+    "let the type have them"
+BINDING = "bind is read where it names a module of the files, and one instance: " \
+    "write the instance into the module"
 
 
 class Text:
-    """A text without comments and strings, in whose place are blanks, and its places in the files that it is made of."""
+    """A text without comments and strings, in whose place are blanks, and its places in the files
+    that it is made of."""
 
     def __init__(self, text: bytes) -> None:
         self.text = text
@@ -58,7 +66,8 @@ class Text:
         return Fault(f"{self.place(offset)}: {why}")
 
     def check(self, below: Iterable[str]) -> None:
-        """Refuses what yosys reads otherwise than Verilog has it, in these modules and outside of all."""
+        """Refuses what yosys reads otherwise than Verilog has it, in these modules and outside of
+        all."""
         for offset, why in sorted(self.misread()):
             if self.module(offset) in {None, *below}:
                 raise self.fault(offset, why)
@@ -72,8 +81,10 @@ class Text:
         # Behind it yosys reads nothing, nor what stands at the end for us.
         yield from ((found.start(), UNENDED) for found in re.finditer(rb"/\*", self.words))
         if names := set(self.types()):
-            dimensions = rb"(?<![\w$.`])(%s)\s*(?:\[[^][]*\]\s*)+%s[A-Za-z_\\]" % (b"|".join(map(re.escape, names)), OPERATORS)
-            yield from ((found.start(1), DIMENSIONS) for found in re.finditer(dimensions, self.words))
+            dimensions = rb"(?<![\w$.`])(%s)\s*(?:\[[^][]*\]\s*)+%s[A-Za-z_\\]" % (
+                b"|".join(map(re.escape, names)), OPERATORS)
+            yield from ((found.start(1), DIMENSIONS)
+                        for found in re.finditer(dimensions, self.words))
 
     def module(self, offset: int) -> str | None:
         """The name of the module at an offset; None outside of all."""
@@ -85,7 +96,8 @@ class Text:
         for found in PART.finditer(self.words, offset):
             depth += {b"begin": 1, b"end": -1}.get(found[0], 0)
             is_whole = depth == 0 and found[0] in (b";", b"end")
-            if is_whole and not re.match(rb"\s*(?::\s*\w+\s*)?else\b", self.words[found.end():found.end() + 200]):
+            if is_whole and not re.match(rb"\s*(?::\s*\w+\s*)?else\b",
+                                         self.words[found.end():found.end() + 200]):
                 return found.end()
         return len(self.words)
 
@@ -99,7 +111,8 @@ class Text:
             yield from re.findall(rb"[A-Za-z_][\w$]*", self.words[found.end():place])[-1:]
 
     def spans(self) -> Iterator[tuple[str, int, int, bool]]:
-        """The name of each module, where it begins, where its last word is, and whether implicit nets are allowed in it."""
+        """The name of each module, where it begins, where its last word is, and whether implicit
+        nets are allowed in it."""
         name, first, is_next, is_allowed = None, 0, False, True
         for found in WORD.finditer(self.words):
             word = found[0]
@@ -121,10 +134,12 @@ class Text:
         return b"".join([*parts, self.text[last:]])
 
     def without_bound(self, lines: dict[str, bytes]) -> bytes:
-        """The text without the instances that it binds to modules, which are added to the lines of these."""
+        """The text without the instances that it binds to modules, which are added to the lines of
+        these."""
 
         def blank(found: re.Match[bytes]) -> bytes:
-            lines[found[1].decode()] += b" ".join(self.text[found.start(2):found.end(2)].split()) + b" "
+            lines[found[1].decode()] += b" ".join(
+                self.text[found.start(2):found.end(2)].split()) + b" "
             return re.sub(rb"[^\n]", b" ", found[0])
 
         parts, last = [], 0
@@ -158,4 +173,5 @@ def bound(texts: Mapping[str, bytes]) -> dict[str, bytes]:
 def moved(text: bytes, before: Iterable[int], now: Iterable[int]) -> bytes:
     """A text whose folders had these descriptors, and now have others."""
     numbers = dict(zip(before, now))
-    return FOLDER.sub(lambda found: found[1] + b"%d" % numbers.get(int(found[2]), int(found[2])), text)
+    return FOLDER.sub(lambda found: found[1] + b"%d" % numbers.get(int(found[2]), int(found[2])),
+                      text)

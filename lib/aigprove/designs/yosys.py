@@ -1,4 +1,6 @@
-"""Yosys, which runs scripts in a folder. It is told names of our own alone, whatever bytes are in the paths that a user gives: to yosys a
+"""Yosys, which runs scripts in a folder.
+
+It is told names of our own alone, whatever bytes are in the paths that a user gives: to yosys a
 path may be a pattern or a command."""
 from __future__ import annotations
 
@@ -31,10 +33,13 @@ Texts = Callable[[Sequence[int]], Mapping[str, bytes]]
 WARNING = re.compile(r"^(?:(.*): )?Warning: (.*(?:\n {4}.*)*)$", re.MULTILINE)
 # Warnings that aren't told, and why.
 HUSHED = {
-    "The network is combinational": "ABC says it of the gates that FREE and WRITE give it, of any design",
-    "Identifier `.*' is implicitly declared": "each such name is looked up, and refused if it is no implicit net of Verilog",
+    "The network is combinational":
+    "ABC says it of the gates that FREE and WRITE give it, of any design",
+    "Identifier `.*' is implicitly declared":
+    "each such name is looked up, and refused if it is no implicit net of Verilog",
 }
-# How many commands a line of a script has at most: yosys copies the rest of a line behind each word.
+# How many commands a line of a script has at most: yosys copies the rest of a line behind each
+# word.
 LONGEST = 1000
 
 
@@ -43,7 +48,8 @@ class TranslationTimeout(Fault):
 
 
 class Yosys:
-    """Runs scripts up to a deadline, with copies of a design's files, each beside links to what stands beside the file."""
+    """Runs scripts up to a deadline, with copies of a design's files, each beside links to what
+    stands beside the file."""
 
     def __init__(self, files: Sequence[File], folder: str, task: Task, deadline: float) -> None:
         if shutil.which("yosys") is None:
@@ -56,7 +62,8 @@ class Yosys:
         self.copies = {file.path: self.copied(i, file) for i, file in enumerate(files)}
         # The folders' descriptors in the last run that read the design.
         self.descriptors: Sequence[int] = []
-        # What names stand for in what yosys says, and of what it warned when it read the design, and later.
+        # What names stand for in what yosys says, and of what it warned when it read the design,
+        # and later.
         self.meanings: dict[str, str] = {}
         self.warnings: list[str] = []
 
@@ -87,9 +94,11 @@ class Yosys:
             out.write(text)
 
     def put_script(self, name: str, text: str) -> None:
-        """Puts a script into the folder, as few lines: yosys looks through the whole design behind each."""
+        """Puts a script into the folder, as few lines: yosys looks through the whole design behind
+        each."""
         commands = list(filter(None, text.split("\n")))
-        self.put(name, "".join("; ".join(commands[i : i + LONGEST]) + "\n" for i in range(0, len(commands), LONGEST)))
+        self.put(name, "".join("; ".join(commands[i:i + LONGEST]) + "\n"
+                               for i in range(0, len(commands), LONGEST)))
 
     def text(self, name: str) -> str:
         with open(self.place(name), encoding="utf-8", errors="surrogateescape") as file:
@@ -103,7 +112,8 @@ class Yosys:
     def told(self, said: str) -> str:
         """What yosys says, with the user's paths for its names."""
         for name in sorted(self.meanings, key=len, reverse=True):
-            said = said.replace(name, plain(os.fsencode(self.meanings[name])).replace("\n", "\\x0a"))
+            said = said.replace(name,
+                                plain(os.fsencode(self.meanings[name])).replace("\n", "\\x0a"))
         return said
 
     def fill(self, texts: Mapping[str, bytes]) -> None:
@@ -115,14 +125,17 @@ class Yosys:
     def warned(self, said: str) -> None:
         """Keeps the warnings in what yosys said, each as a line."""
         for place, text in WARNING.findall(said):
-            line = f"{self.told(place) if place else self.path}: yosys warns: {' '.join(self.told(text).split())}"
+            what = " ".join(self.told(text).split())
+            line = f"{self.told(place) if place else self.path}: yosys warns: {what}"
             if line not in self.warnings and not any(re.match(hushed, text) for hushed in HUSHED):
                 self.warnings.append(line)
 
     def read(self, script: Script, folders: Sequence[str], texts: Texts) -> Run:
-        """Begins a run of a script in the folder where we are, from which relative paths in the design are, and gives it once it is ready.
-        The script is a function of where our folder is, the file that it writes to once it is ready, the paths of the files' copies, and
-        those of the folders beside them and of these. The copies' texts are a function of the folders' descriptors."""
+        """Begins a run of a script in the folder where we are, from which relative paths in the
+        design are, and gives it once it is ready. The script is a function of where our folder is,
+        the file that it writes to once it is ready, the paths of the files' copies, and those of
+        the folders beside them and of these. The copies' texts are a function of the folders'
+        descriptors."""
         ready, told = os.pipe()
         with open(ready, "rb", buffering=0) as waiting:
             with open(told, "wb"):
@@ -135,13 +148,16 @@ class Yosys:
     def begin_reading(self, script: Script, folders: Sequence[str], texts: Texts, told: int) -> Run:
         """Begins that run, which has this descriptor to tell by that it is ready."""
         with contextlib.ExitStack() as opened:
-            descriptors = [os.open(path, os.O_PATH | os.O_DIRECTORY) for path in [self.folder, *self.beside, *folders]]
+            descriptors = [os.open(path, os.O_PATH | os.O_DIRECTORY)
+                           for path in [self.folder, *self.beside, *folders]]
             for descriptor in descriptors:
                 opened.callback(os.close, descriptor)
-            is_ready, made, *paths = (f"/proc/self/fd/{descriptor}" for descriptor in [told, *descriptors])
+            is_ready, made, *paths = (f"/proc/self/fd/{descriptor}"
+                                      for descriptor in [told, *descriptors])
             copies = {path: f"{made}/{copy}" for path, copy in self.copies.items()}
             sources = {f"{made}/{i}/source": path for i, path in enumerate(self.beside)}
-            self.meanings = {**dict(zip(paths, [*self.beside, *folders])), **sources, **{copy: path for path, copy in copies.items()}}
+            self.meanings = {**dict(zip(paths, [*self.beside, *folders])),
+                             **sources, **{copy: path for path, copy in copies.items()}}
             self.descriptors, self.warnings = descriptors, []
             self.fill(texts(descriptors))
             self.put_script("read.ys", script(made, is_ready, copies, paths))
@@ -155,7 +171,8 @@ class Yosys:
 
     @contextlib.contextmanager
     def alongside(self, script: str, **words: str) -> Iterator[None]:
-        """Runs a script in its own folder beside what is done meanwhile; where that fails, the run is ended."""
+        """Runs a script in its own folder beside what is done meanwhile; where that fails, the run
+        is ended."""
         run = self.begin(script, **words)
         try:
             yield
@@ -175,11 +192,14 @@ class Run:
     def __init__(self, yosys: Yosys, words: Words, **streams: Any) -> None:
         self.yosys, self.out = yosys, tempfile.TemporaryFile()
         self.outcome: tuple[int, bytes, bool] | None = None
-        self.late, left = TranslationTimeout(f"{yosys.path}: yosys was still at it when the time was over"), yosys.deadline - time.monotonic()
+        self.late = TranslationTimeout(
+            f"{yosys.path}: yosys was still at it when the time was over")
+        left = yosys.deadline - time.monotonic()
         if left <= 0:
             raise self.late
         self.group = yosys.task.start(words, stdout=self.out, stderr=subprocess.STDOUT, **streams)
-        self.timer = threading.Timer(min(left, threading.TIMEOUT_MAX), self.group.signal, [signal.SIGKILL])
+        self.timer = threading.Timer(min(left, threading.TIMEOUT_MAX),
+                                     self.group.signal, [signal.SIGKILL])
         self.timer.daemon = True
         self.timer.start()
 

@@ -1,1 +1,2 @@
-"""Comparing two files: their miter, how their signals are matched, and finding nodes that are always equal."""
+"""Comparing two files: their miter, how their signals are matched, and finding nodes that are
+always equal."""

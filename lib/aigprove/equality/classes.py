@@ -1,4 +1,6 @@
-"""Classes of nodes that may be equal at every step, as random runs have it. Nothing here is believed."""
+"""Classes of nodes that may be equal at every step, as random runs have it.
+
+Nothing here is believed."""
 from __future__ import annotations
 
 import collections
@@ -12,12 +14,13 @@ from aigprove.equality.nodes import Known, Nodes, sides
 
 # How many runs are simulated at once, at least and at most, and of how many bits in all values.
 FEWEST, MOST, BITS = 64, 4096, 1 << 28
-# In how many of these something is true that seldom is, and how often two such are tried to be made different.
+# In how many of these something is true that seldom is, and how often two such are tried to be made
+# different.
 SELDOM, TRIED = 32, 3
 # Of more bits than these few are inverted one by one.
 MANY = 400
-# For how many steps from the first states, from random states, and from those that a solver finds; and how many that split no class are
-# the last ones.
+# For how many steps from the first states, from random states, and from those that a solver finds;
+# and how many that split no class are the last ones.
 BEGUN, DRAWN, FOUND, IDLE = 16, 4, 8, 3
 
 
@@ -34,13 +37,15 @@ class Different(Exception):
 
 
 class Classes:
-    """Literals of nodes in classes, of each of which the first stands for all; no literal is there beside its inverse."""
+    """Literals of nodes in classes, of each of which the first stands for all; no literal is there
+    beside its inverse."""
 
     def __init__(self, nodes: Nodes, rng: random.Random, every: int | None = None) -> None:
         self.nodes, self.rng = nodes, rng
         self.rows: list[list[int]] = []
         self.listed: list[list[int]] | None = None
-        self.every = every or (1 << (1 << max(FEWEST, min(MOST, BITS // nodes.all().stop)).bit_length() - 1)) - 1
+        self.every = every or (
+            1 << (1 << max(FEWEST, min(MOST, BITS // nodes.all().stop)).bit_length() - 1)) - 1
 
     def drawn(self, literals: Sequence[int]) -> list[int]:
         """Random values for literals."""
@@ -52,15 +57,18 @@ class Classes:
 
     def pairs(self) -> list[tuple[int, int]]:
         """The first of each class and every other member, in the order of these."""
-        return sorted(((own[0], other) for own in self.rows for other in own[1:]), key=lambda pair: pair[1] >> 1)
+        return sorted(((own[0], other) for own in self.rows for other in own[1:]),
+                      key=lambda pair: pair[1] >> 1)
 
     def members(self, known: Known) -> tuple[Iterable[int], Iterable[int], Sequence[int]]:
-        """Values of each member that isn't the first of its class, and of this first one; and the numbers of their classes."""
+        """Values of each member that isn't the first of its class, and of this first one; and the
+        numbers of their classes."""
         if self.listed is not self.rows:
             self.listed = self.rows
             pairs = [(own[0], it, number) for number, own in enumerate(self.rows) for it in own[1:]]
             self.firsts, self.others, self.numbers = zip(*pairs) if pairs else ((), (), ())
-        return map(known.__getitem__, self.firsts), map(known.__getitem__, self.others), self.numbers
+        return map(known.__getitem__,
+                   self.firsts), map(known.__getitem__, self.others), self.numbers
 
     def equal(self, known: Known) -> int:
         """The runs in which the members of each class are equal."""
@@ -72,11 +80,13 @@ class Classes:
         firsts, others, numbers = self.members(known)
         differing = map(operator.and_, map(operator.xor, firsts, others), itertools.repeat(runs))
         if hit := set(itertools.compress(numbers, differing)):
-            rows = [[own] if number not in hit else parts_of(own, [known[it] & runs for it in own]) for number, own in enumerate(self.rows)]
+            rows = [[own] if number not in hit else parts_of(own, [known[it] & runs for it in own])
+                    for number, own in enumerate(self.rows)]
             self.rows = list(itertools.chain.from_iterable(rows))
 
     def gather(self, literals: Iterable[int], leaves: Sequence[int]) -> None:
-        """Puts literals, the first of which is 0, into classes, inverted where they are 1 in the first run, by the values of leaves."""
+        """Puts literals, the first of which is 0, into classes, inverted where they are 1 in the
+        first run, by the values of leaves."""
         known = self.nodes.values(leaves, self.every)
         self.rows = [[literal ^ known[literal] & 1 for literal in literals]]
         self.split(known, self.nodes.allowed(known, self.every))
@@ -90,7 +100,8 @@ class Classes:
         return self
 
     def of_first(self, stop: int) -> Classes:
-        """The same of nodes among which are no others than those that a class with one before a place has, and what these read."""
+        """The same of nodes among which are no others than those that a class with one before a
+        place has, and what these read."""
         rows, nodes = [own for own in self.rows if own[0] < stop], self.nodes
         read = itertools.chain(nodes.nexts, nodes.bads, nodes.constraints, *rows)
         nodes, known = nodes.without(nodes.cone(read))
@@ -106,8 +117,8 @@ class Classes:
         return runs
 
     def follow(self, leaves: Sequence[int], runs: int, steps: int = FOUND) -> None:
-        """Splits classes by so many steps, from these inputs and latches on, of runs that follow states in which members are equal, unless
-        some in a row split none."""
+        """Splits classes by so many steps, from these inputs and latches on, of runs that follow
+        states in which members are equal, unless some in a row split none."""
         idle = 0
         for _ in range(steps):
             known, size = self.nodes.values(leaves, self.every), self.size()
@@ -126,18 +137,21 @@ class Classes:
             self.follow(self.merged(self.drawn(self.nodes.leaves()), self.every), self.every, DRAWN)
 
     def excite(self) -> None:
-        """Splits classes of what is seldom true by random values that may make members different."""
+        """Splits classes of what is seldom true by random values that may make members
+        different."""
         known = self.nodes.values(self.drawn(self.nodes.leaves()), self.every)
         tried = collections.Counter[tuple[int, int]]()
-        while wanted := [(own[0], it) for own in self.rows if known[own[0]].bit_count() <= SELDOM for it in own[1:] if tried[own[0], it] < TRIED]:
+        while wanted := [(own[0], it) for own in self.rows if known[own[0]].bit_count() <= SELDOM
+                         for it in own[1:] if tried[own[0], it] < TRIED]:
             tried.update(wanted)
             count = self.every.bit_length()
             for first in range(0, len(wanted), count):
-                values = self.nodes.values(self.apart(wanted[first : first + count]), self.every)
+                values = self.nodes.values(self.apart(wanted[first:first + count]), self.every)
                 self.split(values, self.nodes.allowed(values, self.every))
 
     def apart(self, pairs: Iterable[tuple[int, int]]) -> list[int]:
-        """Random values of inputs and latches, which may make one of these pairs different in each run."""
+        """Random values of inputs and latches, which may make one of these pairs different in each
+        run."""
         leaves = self.drawn(self.nodes.leaves())
         for run, (left, right) in enumerate(pairs):
             side = self.rng.getrandbits(1) if left else 1
@@ -147,7 +161,8 @@ class Classes:
         return leaves
 
     def merged(self, leaves: Sequence[int], every: int) -> list[int]:
-        """Values of inputs and latches where those of a class have that of the first, unless this is a gate."""
+        """Values of inputs and latches where those of a class have that of the first, unless this
+        is a gate."""
         made = [0, *leaves]
         for first, *others in self.rows:
             if first < self.nodes.latches.stop:
@@ -162,14 +177,16 @@ class Classes:
         places = [place for place in range(self.every.bit_length()) if runs >> place & 1]
         count = 1 << min(len(places), FEWEST).bit_length() - 1
         times = self.every // ((1 << count) - 1)
-        return [times * sum((value >> place & 1) << i for i, place in enumerate(places[:count])) for value in values]
+        return [times * sum((value >> place & 1) << i for i, place in enumerate(places[:count]))
+                for value in values]
 
     def step(self, state: Sequence[int], runs: int) -> None:
         """Splits classes of latches by these values."""
         self.split(sides([*[0] * len(self.nodes.inputs), *state], self.every), runs)
 
     def beside(self, row: Sequence[int]) -> list[int]:
-        """Bits as the first of many runs, and in each other one with some of them inverted, two to four as a rule."""
+        """Bits as the first of many runs, and in each other one with some of them inverted, two to
+        four as a rule."""
         made, count = [self.every * bit for bit in row], self.every.bit_length()
         if len(row) > MANY:
             for run in range(1, count):

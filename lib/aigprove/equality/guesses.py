@@ -1,5 +1,6 @@
-"""Registers that correspond: a program that guesses, by names and by random runs, which latches, and other nodes, of a circuit of two files
-are always equal, or each other's inverse, and prints a certificate that says so. Nothing here is believed."""
+"""Registers that correspond: a program that guesses, by names and by random runs, which latches,
+and other nodes, of a circuit of two files are always equal, or each other's inverse, and prints a
+certificate that says so. Nothing here is believed."""
 from __future__ import annotations
 
 import copy
@@ -24,8 +25,9 @@ from aigprove.questions.solver import Undecided
 
 # How aigedit begins the names of latches of the other file.
 OTHER = b"other."
-# How many seconds of cadical's are few: so many, and one for so many gates; and how many conflicts, where there are no more gates than these:
-# of more it takes long to look for nodes inside that are equal.
+# How many seconds of cadical's are few: so many, and one for so many gates; and how many conflicts,
+# where there are no more gates than these: of more it takes long to look for nodes inside that are
+# equal.
 LEAST, QUICK, FEW, MANY = 1, 1000, 300, 20000
 # For how many steps nodes are looked at ahead of those that there are, at first and then.
 AHEAD = [2, 6]
@@ -40,13 +42,17 @@ class Guess(Protocol):
         """Returns pairs of nodes that a step keeps equal."""
 
 
-def partners(circuit: Circuit, count: int, others: int, alike: Mapping[int, int]) -> dict[int, int | None]:
-    """Of two files with so many latches: the latch of the second, by its place, that is to be a latch of the first: one that starts like
-    it, or has the same name, or else is at the same place."""
+def partners(circuit: Circuit, count: int, others: int, alike: Mapping[int, int]) -> dict[
+        int, int | None]:
+    """Of two files with so many latches: the latch of the second, by its place, that is to be a
+    latch of the first: one that starts like it, or has the same name, or else is at the same
+    place."""
     names = {circuit.names.get(("l", i)): i for i in range(len(circuit.latches))}
-    named = {i: names.get(OTHER + circuit.names[("l", i)]) for i in range(count) if ("l", i) in circuit.names}
+    named = {i: names.get(OTHER + circuit.names[("l", i)])
+             for i in range(count) if ("l", i) in circuit.names}
     starting = {partner: place for place, partner in alike.items()}
-    return {i: starting.get(i) or named.get(i) or (i + count if others == count else None) for i in range(count)}
+    return {i: starting.get(i) or named.get(i) or (i + count if others == count else None)
+            for i in range(count)}
 
 
 def paired(classes: Classes, other: Mapping[int, int]) -> Classes:
@@ -69,7 +75,8 @@ class States:
         self.classes, self.nodes, self.solver, self.is_hard = classes, classes.nodes, solver, False
 
     def pairs(self) -> list[Pair]:
-        """All pairs of latches, and if it is hard those of nodes, by which a step was seen to keep them and nothing bad to be there."""
+        """All pairs of latches, and if it is hard those of nodes, by which a step was seen to keep
+        them and nothing bad to be there."""
         found = None
         while found is None:
             self.classes.settle()
@@ -86,10 +93,12 @@ class States:
         classes, size, states, proved = self.classes, self.classes.size(), self.classes.pairs(), 0
         nodes, known = self.nodes.merged(classes.merged(self.nodes.leaves(), 1))
         inner, limits = self.inner(nodes), [] if self.is_hard else limits_for(len(nodes.gates.rows))
-        nexts = [(nodes.next(left), nodes.next(right)) for left, right in states] + [(bad, 0) for bad in nodes.bads]
+        nexts = [(nodes.next(left), nodes.next(right)) for left,
+                 right in states] + [(bad, 0) for bad in nodes.bads]
         while classes.size() == size:
             pairs, facts = inner.pairs(), [(literal, 1) for literal in nodes.constraints]
-            found = self.solver.differing(nodes.gates, facts + pairs[:proved], pairs[proved:] + nexts, limits)
+            found = self.solver.differing(nodes.gates, facts + pairs[:proved],
+                                          pairs[proved:] + nexts, limits)
             if found is None:
                 return states + of_nodes(pairs, known)
             proved += min(found[0], len(pairs) - proved)
@@ -97,7 +106,8 @@ class States:
         return None
 
     def inner(self, nodes: Nodes) -> Classes:
-        """Classes of nodes that are equal where members of classes are, as random values have it, if it is hard; else there are none."""
+        """Classes of nodes that are equal where members of classes are, as random values have it,
+        if it is hard; else there are none."""
         made = Classes(nodes, self.classes.rng, self.classes.every)
         if self.is_hard:
             made.gather(nodes.all(), made.drawn(nodes.leaves()))
@@ -108,7 +118,8 @@ class States:
         """Splits what a solution, and others beside it, show to be different."""
         classes, nodes = self.classes, inner.nodes
         size, latches = classes.size() + inner.size(), classes.size()
-        known = nodes.values(inner.beside([literal >> 1 in true for literal in nodes.leaves()]), inner.every)
+        known = nodes.values(inner.beside([literal >> 1 in true for literal in nodes.leaves()]),
+                             inner.every)
         runs, state = inner.check(known, inner.every), nodes.following(known)
         inner.split(known, runs)
         classes.step(state, runs)
@@ -161,12 +172,14 @@ class Steps:
             self.follow([*values[:len(nodes.inputs)], *state], classes.every)
 
     def constraints(self, leaves: Sequence[int], gates: Gates) -> list[int]:
-        """The literals of the constraints, by those of inputs and latches, whether classes hold or not."""
-        return self.nodes.allowing(self.nodes.literals(leaves, gates)) if self.nodes.constraints else []
+        """The literals of the constraints, by those of inputs and latches, whether classes hold or
+        not."""
+        return self.nodes.allowing(self.nodes.literals(leaves,
+                                                       gates)) if self.nodes.constraints else []
 
     def keep_next(self) -> None:
-        """Splits classes until a step was seen to keep each of them, some perhaps in states in which others were equal that were split
-        then."""
+        """Splits classes until a step was seen to keep each of them, some perhaps in states in
+        which others were equal that were split then."""
         nodes, classes, proved = self.nodes, self.classes, set[tuple[int, int]]()
         inputs = range(nodes.latches.stop, nodes.latches.stop + 2 * len(nodes.inputs), 2)
         while True:
@@ -176,8 +189,10 @@ class Steps:
             leaves = [*inputs, *nodes.following(now)]
             _, apart = united.literals(leaves, gates, merged)
             asked = [it for it in apart if it[0] not in proved]
-            facts = [(literal, 1) for literal in [*nodes.allowing(now), *self.constraints(leaves, gates)]]
-            found = self.solver.differing(gates, facts + [pair for _, pair in equal], [pair for _, pair in asked])
+            facts = [(literal, 1)
+                     for literal in [*nodes.allowing(now), *self.constraints(leaves, gates)]]
+            found = self.solver.differing(gates, facts + [pair for _, pair in equal],
+                                          [pair for _, pair in asked])
             if found is None:
                 return
             proved.update(names for names, _ in asked[: found[0]])
@@ -186,23 +201,28 @@ class Steps:
     def divide(self, united: MergedNodes, true: set[int]) -> None:
         """Splits what a solution, and others beside it, show to be different in the next step."""
         count = len(self.nodes.leaves())
-        values = self.classes.beside([number in true for number in range(1, count + len(self.nodes.inputs) + 1)])
+        values = self.classes.beside([number in true
+                                      for number in range(1, count + len(self.nodes.inputs) + 1)])
         state, runs = self.after(united, values[:count])
         self.follow([*values[count:], *state], runs)
 
     def after(self, united: MergedNodes, leaves: Sequence[int]) -> tuple[list[int], int]:
-        """The latches in the step that follows one in which members of classes are equal, and the runs in which they are."""
+        """The latches in the step that follows one in which members of classes are equal, and the
+        runs in which they are."""
         known = self.nodes.values(united.leaves(leaves, self.classes.every), self.classes.every)
         return self.nodes.following(known), self.nodes.allowed(known, self.classes.equal(known))
 
     def settle(self) -> None:
-        """Splits classes by steps from random states in which members are equal, until that splits none."""
+        """Splits classes by steps from random states in which members are equal, until that splits
+        none."""
         classes, size = self.classes, None
         while size != (size := classes.size()):
             self.order = ordered(classes)
-            state, runs = self.after(MergedNodes(classes, self.order), classes.drawn(self.nodes.leaves()))
+            state, runs = self.after(MergedNodes(classes, self.order),
+                                     classes.drawn(self.nodes.leaves()))
             if runs:
-                classes.follow([*classes.drawn(self.nodes.inputs), *classes.spread(state, runs)], classes.every)
+                classes.follow([*classes.drawn(self.nodes.inputs), *classes.spread(state, runs)],
+                               classes.every)
 
     def follow(self, leaves: Sequence[int], runs: int) -> None:
         """Splits classes by runs from a step on, which has to split one."""
@@ -213,24 +233,30 @@ class Steps:
 
 
 def certificate(nodes: Nodes, pairs: list[Pair]) -> bytes:
-    """The text of a certificate whose bad states are those in which a pair differs; of what stands on others first, as they are asked about
-    the last first. It has the gates that pairs read."""
+    """The text of a certificate whose bad states are those in which a pair differs; of what stands
+    on others first, as they are asked about the last first. It has the gates that pairs read."""
     pairs, gates = Pairs(nodes, pairs).needed(), Gates(nodes.gates.next)
     read = nodes.cone(itertools.chain.from_iterable(pairs))
     gates.rows = [row for row in nodes.gates.rows if row[0] in read]
-    ways = [gates.both(*way) for left, right in pairs for way in [(left, right ^ 1), (left ^ 1, right)]]
+    ways = [gates.both(*way)
+            for left, right in pairs for way in [(left, right ^ 1), (left ^ 1, right)]]
     bads = [bad for bad in reversed(ways) if bad] or [0]
-    states = [f"{latch} {latch} {reset if reset < 2 else latch}" for latch, reset in zip(nodes.latches, nodes.resets)]
-    header = f"aag {(gates.next >> 1) - 1} {len(nodes.inputs)} {len(states)} 0 {len(gates.rows)} {len(bads)}"
-    lines = [header, *nodes.inputs, *states, *bads, *(" ".join(map(str, row)) for row in gates.rows)]
+    states = [f"{latch} {latch} {reset if reset < 2 else latch}"
+              for latch, reset in zip(nodes.latches, nodes.resets)]
+    counts = [(gates.next >> 1) - 1, len(nodes.inputs), len(states), 0, len(gates.rows), len(bads)]
+    header = f"aag {' '.join(map(str, counts))}"
+    lines = [header, *nodes.inputs,
+             *states, *bads, *(" ".join(map(str, row)) for row in gates.rows)]
     return "".join(f"{line}\n" for line in lines).encode()
 
 
 class Guesses:
-    """What may be equal in a circuit of two files, of which it has so many latches each, and some start like others: classes of nodes, first
-    of latches alone, which are split until a step keeps them."""
+    """What may be equal in a circuit of two files, of which it has so many latches each, and some
+    start like others: classes of nodes, first of latches alone, which are split until a step keeps
+    them."""
 
-    def __init__(self, circuit: Circuit, alike: Mapping[int, int], solver: IncrementalQueries, given: dict[str, Any]) -> None:
+    def __init__(self, circuit: Circuit, alike: Mapping[int, int],
+                 solver: IncrementalQueries, given: dict[str, Any]) -> None:
         self.circuit, self.alike, self.solver, self.given = circuit, alike, solver, given
         self.counts: tuple[int, int] = (given["counts"][0], given["counts"][1])
 
@@ -245,7 +271,8 @@ class Guesses:
         return None
 
     def guesses(self) -> Iterator[Guess]:
-        """What may be equal: registers and their partners, others, and other nodes, also in steps ahead."""
+        """What may be equal: registers and their partners, others, and other nodes, also in steps
+        ahead."""
         nodes, rng = Nodes(self.circuit, self.alike), random.Random(0)
         latches = Classes(nodes, rng).begin([0, *nodes.latches])
         given = partners(self.circuit, *self.counts, self.alike)
@@ -273,7 +300,8 @@ class Guesses:
             yield Steps(classes, self.solver)
 
     def nodes_ahead(self, steps: int) -> tuple[int, Nodes]:
-        """Nodes, and also those of so many next steps, behind the place before which the others are."""
+        """Nodes, and also those of so many next steps, behind the place before which the others
+        are."""
         nodes = Nodes(self.circuit, self.alike)
         stop = nodes.all().stop
         nodes.look_ahead(steps)
@@ -287,8 +315,9 @@ class Guesses:
 
 
 def run(make: type[Guesses], folder: str, asked: str) -> None:
-    """Prints the certificate for the file `file.aag` of a folder, if there is one, of what is made of its circuit and of what is asked: which
-    latches start like others, how many are of each file, and which solver asks."""
+    """Prints the certificate for the file `file.aag` of a folder, if there is one, of what is made
+    of its circuit and of what is asked: which latches start like others, how many are of each file,
+    and which solver asks."""
     # It soon ends, and what it makes isn't looked through for what could go.
     gc.disable()
     given = json.loads(asked)

@@ -1,5 +1,6 @@
-"""What is matched of two files that are compared: registers with open start by order or by name, as aigedit and aigcheck do themselves; and
-of designs inputs, outputs and bad literals by their names, for which the second one's file is put in order."""
+"""What is matched of two files that are compared: registers with open start by order or by name, as
+aigedit and aigcheck do themselves; and of designs inputs, outputs and bad literals by their names,
+for which the second one's file is put in order."""
 from __future__ import annotations
 
 import collections
@@ -14,7 +15,8 @@ from aigprove.output.signals import word
 
 Named = Circuit | Symbols
 
-# How registers with open start begin: each as it likes, or like that of the other file which is matched so.
+# How registers with open start begin: each as it likes, or like that of the other file which is
+# matched so.
 APART, BY_ORDER, BY_NAME = STARTS = ["apart", "by-order", "by-name"]
 # What stands then behind the names of commands.
 SUFFIXES = {way: "" if way == APART else f"-alike-{way}" for way in STARTS}
@@ -23,28 +25,32 @@ NAMED, MADE = 10, re.compile(r"_[0-9]+_(\[[0-9]+\])?")
 
 
 def partners(way: str, first: Circuit, other: Circuit) -> dict[int, int]:
-    """The place of the first circuit's register for each of the other's that starts like it, by its place."""
+    """The place of the first circuit's register for each of the other's that starts like it, by its
+    place."""
     ours, theirs = first.opened(), other.opened()
     if way == BY_ORDER:
         return dict(zip(theirs, ours))
-    named = {first.names[place]: place[1] for i in reversed(ours) if way == BY_NAME and (place := ("l", i)) in first.names}
+    named = {first.names[place]: place[1]
+             for i in reversed(ours) if way == BY_NAME and (place := ("l", i)) in first.names}
     return {i: named[name] for i in theirs if (name := other.names.get(("l", i))) in named}
 
 
 def way_by_names(circuits: Iterable[Circuit]) -> str:
     """By name, where all registers with open start have one, else by order."""
-    return BY_NAME if all(("l", i) in circuit.names for circuit in circuits for i in circuit.opened()) else BY_ORDER
+    return BY_NAME if all(("l", i) in circuit.names
+                          for circuit in circuits for i in circuit.opened()) else BY_ORDER
 
 
 class Starts:
-    """How registers with open start begin in two circuits; what stands behind the names of commands, and what behind lines. Where no two
-    are matched all are apart."""
+    """How registers with open start begin in two circuits; what stands behind the names of
+    commands, and what behind lines. Where no two are matched all are apart."""
 
     def __init__(self, way: str, *circuits: Circuit) -> None:
         self.partners = partners(way, *circuits) if circuits else {}
         self.way = way if self.partners else APART
         self.suffix = SUFFIXES[self.way]
-        self.said = f", registers with open start alike {way.replace('-', ' ')}" * (self.way != APART)
+        self.said = f", registers with open start alike {way.replace('-', ' ')}" * (
+            self.way != APART)
 
 
 def alone(way: str, paths: Sequence[str], first: Circuit, other: Circuit) -> Iterator[str]:
@@ -54,21 +60,27 @@ def alone(way: str, paths: Sequence[str], first: Circuit, other: Circuit) -> Ite
     yield from lines_of_alone(way, paths[::-1], other, first, set(found))
 
 
-def lines_of_alone(way: str, paths: Sequence[str], own: Circuit, other: Circuit, matched: set[int]) -> Iterator[str]:
+def lines_of_alone(way: str, paths: Sequence[str],
+                   own: Circuit, other: Circuit, matched: set[int]) -> Iterator[str]:
     """These lines of one file, in which registers at these places have partners."""
     names = collections.defaultdict[str, dict[str, bool]](dict)
     known = open_names(other)
     for place in own.opened():
         if place not in matched:
-            why = "{} has fewer" if way == BY_ORDER else why_alone(own.names.get(("l", place)), known)
+            why = "{} has fewer" if way == BY_ORDER else why_alone(own.names.get(("l", place)),
+                                                                   known)
             names[why][told(own, place)] = True
     for why, found in names.items():
-        listed = [*list(found)[:NAMED], *[f"and {len(found) - NAMED} others"] * (len(found) > NAMED)]
-        yield f"{escaped(paths[0])}: open at the start, without a partner: {' '.join(listed)} ({why.format(escaped(paths[1]))})"
+        listed = [*list(found)[:NAMED],
+                  *[f"and {len(found) - NAMED} others"] * (len(found) > NAMED)]
+        own_path, other_path = map(escaped, paths)
+        yield f"{own_path}: open at the start, without a partner: " \
+            f"{' '.join(listed)} ({why.format(other_path)})"
 
 
 def told(circuit: Circuit, place: int) -> str:
-    """A register as it is told: by its place where it has no name, and the bits of a word as one."""
+    """A register as it is told: by its place where it has no name, and the bits of a word as
+    one."""
     name = circuit.names.get(("l", place))
     return f"l{place}" if name is None else word(decoded(re.sub(rb"\[[0-9]+\]$", b"", name)))
 
@@ -92,10 +104,13 @@ def why_alone(name: bytes | None, known: Mapping[bytes | None, bool]) -> str:
 
 
 def order(letter: str, first: Named, other: Named) -> list[int] | None:
-    """The places of the second circuit's signals of a kind in the order in which the first has their names; as they stand where the counts
-    differ, or some have no name or the same one. None where both haven't the same names."""
-    ours, theirs = ([it.names.get((letter, i)) for i in range(getattr(it.header, KINDS[letter]))] for it in (first, other))
-    if len(ours) != len(theirs) or any(None in names or len(set(names)) < len(names) for names in (ours, theirs)):
+    """The places of the second circuit's signals of a kind in the order in which the first has
+    their names; as they stand where the counts differ, or some have no name or the same one. None
+    where both haven't the same names."""
+    ours, theirs = ([it.names.get((letter, i)) for i in range(getattr(it.header, KINDS[letter]))]
+                    for it in (first, other))
+    if len(ours) != len(theirs) or any(None in names or len(set(names)) < len(names)
+                                       for names in (ours, theirs)):
         return list(range(len(theirs)))
     places = {name: i for i, name in enumerate(theirs)}
     return [places[name] for name in ours] if places.keys() == set(ours) else None
@@ -113,18 +128,22 @@ def arranged(circuit: Circuit, places: Mapping[str, Sequence[int]]) -> Circuit:
     for letter, own in places.items():
         literals = getattr(circuit, KINDS[letter])
         setattr(made, KINDS[letter], [literals[i] for i in own])
-        made.names.update(((letter, i), circuit.names[letter, place]) for i, place in enumerate(own) if (letter, place) in circuit.names)
+        made.names.update(((letter, i), circuit.names[letter, place])
+                          for i, place in enumerate(own) if (letter, place) in circuit.names)
     return made
 
 
 def best(names: Iterable[str]) -> str:
-    """Of the names of a register one that a person gave, of fewest modules, and of these the shortest."""
-    return min(names, key=lambda name: (MADE.fullmatch(name) is not None, name.count("."), len(name), name))
+    """Of the names of a register one that a person gave, of fewest modules, and of these the
+    shortest."""
+    return min(names, key=lambda name: (MADE.fullmatch(name) is not None,
+                                        name.count("."), len(name), name))
 
 
 def chosen(designs: Sequence[Mapping[int, Sequence[str]]]) -> list[dict[int, str]]:
-    """A name for each register of designs, of which all names are given by their places: of two designs one that both have, where there is
-    such, and else one that no other register of the same has."""
+    """A name for each register of designs, of which all names are given by their places: of two
+    designs one that both have, where there is such, and else one that no other register of the same
+    has."""
     made: list[dict[int, str]] = [{} for _ in designs]
     if len(designs) == 2:
         places = {name: place for place, names in designs[1].items() for name in names}

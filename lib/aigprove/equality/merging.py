@@ -1,6 +1,7 @@
-"""Clauses of gates, each an and, in which variables are merged whose definitions are equal, or that units say to be equal, and the clauses
-that say so: each follows from those before it by unit propagation, and so a proof may begin with them. A program that asks cadical so.
-Nothing here is believed."""
+"""Clauses of gates, each an and, in which variables are merged whose definitions are equal, or that
+units say to be equal, and the clauses that say so: each follows from those before it by unit
+propagation, and so a proof may begin with them. A program that asks cadical so. Nothing here is
+believed."""
 from __future__ import annotations
 
 import gc
@@ -28,14 +29,15 @@ def is_short(line: bytes) -> bool:
 
 
 def definitions(lines: Sequence[bytes]) -> tuple[list[Gate], list[tuple[int, ...]]]:
-    """Of the lines of clauses, as our programs print them raw: the gates, by the variable and its two operands, and the clauses of one
-    literal that stand before and behind these. A gate has three clauses: -v x, -v y, v -x -y."""
+    """Of the lines of clauses, as our programs print them raw: the gates, by the variable and its
+    two operands, and the clauses of one literal that stand before and behind these. A gate has
+    three clauses: -v x, -v y, v -x -y."""
     first, stop = 0, len(lines)
     while first < stop and is_short(lines[first]):
         first += 1
     while first < stop and is_short(lines[stop - 1]):
         stop -= 1
-    numbers = list(map(int, b" ".join(lines[first + 2 : stop : 3]).split()))
+    numbers = list(map(int, b" ".join(lines[first + 2:stop:3]).split()))
     inverted = [-number for number in numbers]
     gates = list(zip(numbers[::4], inverted[1::4], inverted[2::4]))
     if 3 * len(gates) != stop - first or any(numbers[3::4]):
@@ -53,7 +55,8 @@ def text_of(clause: Iterable[int]) -> bytes:
 
 
 def texts_of(clauses: Iterable[Iterable[int]]) -> Iterator[bytes]:
-    """The texts of clauses, of those that say the same one, and of those that are always true none."""
+    """The texts of clauses, of those that say the same one, and of those that are always true
+    none."""
     sets = dict.fromkeys(frozenset(clause) for clause in clauses)
     return (text_of(own) for own in sets if TRUE not in own and not any(-it in own for it in own))
 
@@ -66,7 +69,8 @@ def is_plain(variable: int, left: int, right: int) -> bool:
 def text_of_gate(variable: int, left: int, right: int) -> bytes:
     """The text of a gate's clauses."""
     if is_plain(variable, left, right):
-        return b"%d %d 0\n%d %d 0\n%d %d %d 0\n" % (-variable, left, -variable, right, variable, -left, -right)
+        return b"%d %d 0\n%d %d 0\n%d %d %d 0\n" % (-variable, left, -variable,
+                                                    right, variable, -left, -right)
     return b"".join(texts_of(clauses_of(variable, left, right)))
 
 
@@ -87,8 +91,8 @@ def literal_of(left: int, right: int) -> int | None:
 
 
 class Merging:
-    """The clauses of a question, of which the last one is left out, and for each variable the literal that stands for it: variable 1 is
-    false."""
+    """The clauses of a question, of which the last one is left out, and for each variable the
+    literal that stands for it: variable 1 is false."""
 
     def __init__(self, clauses: bytes) -> None:
         count, place = parsed(clauses)
@@ -101,12 +105,14 @@ class Merging:
         self.merged: list[tuple[int, int]] = []
         for (it,) in filter(None, self.others):
             self.same[it], self.same[-it] = TRUE, FALSE
-        # Equal definitions first, so that the nodes of a file and of its certificate are the same ones; then what units say of these.
+        # Equal definitions first, so that the nodes of a file and of its certificate are the same
+        # ones; then what units say of these.
         gates = self.merge(gates)
         self.merge_equal(gates)
         left, same = self.merge(gates), self.same
         self.resolve()
-        self.rows = list(dict.fromkeys((same[variable], same[one], same[two]) for variable, one, two in left))
+        self.rows = list(dict.fromkeys((same[variable], same[one], same[two])
+                                       for variable, one, two in left))
 
     def literal(self, of: int) -> int:
         """What stands for a literal."""
@@ -119,7 +125,8 @@ class Merging:
             self.same[variable], self.same[-variable] = it, -it
 
     def merge(self, gates: Iterable[Gate]) -> list[Gate]:
-        """The gates that are left when variables of the same definition are merged: those that say more than others before them."""
+        """The gates that are left when variables of the same definition are merged: those that say
+        more than others before them."""
         self.resolve()
         same, made, left = self.same, dict[tuple[int, int], int | None](), list[Gate]()
         for gate in gates:
@@ -163,7 +170,8 @@ class Merging:
         return literal
 
     def asked(self) -> Iterator[bytes]:
-        """A file of cadical's that asks about the literals of the last clause in turn, the last first; nothing where all are false."""
+        """A file of cadical's that asks about the literals of the last clause in turn, the last
+        first; nothing where all are false."""
         wanted = dict.fromkeys(it for it in map(self.literal, reversed(self.last)) if it != FALSE)
         if wanted:
             yield b"p inccnf\n-1 0\n"
@@ -172,17 +180,22 @@ class Merging:
             yield from (b"a %d 0\n" % it for it in wanted)
 
     def proof(self) -> bytes:
-        """The begin of a proof: each merged variable and what stood for it then imply one another. Then come clauses that are shorter than
-        those that were printed, by which unit propagation finds more."""
+        """The begin of a proof: each merged variable and what stood for it then imply one another.
+
+        Then come clauses that are shorter than those that were printed, by which unit propagation
+        finds more."""
         shorter = itertools.filterfalse(lambda row: is_plain(*row), self.rows)
-        return b"".join([*itertools.starmap(text_of_lemmas, self.merged), *itertools.starmap(text_of_gate, shorter)])
+        return b"".join([*itertools.starmap(text_of_lemmas, self.merged),
+                         *itertools.starmap(text_of_gate, shorter)])
 
 
 def main(folder: str, *words: str) -> None:
-    """Asks cadical, which these words call, about the clauses in a folder, prints its solution or the whole proof, and ends as it ends."""
+    """Asks cadical, which these words call, about the clauses in a folder, prints its solution or
+    the whole proof, and ends as it ends."""
     # It soon ends, and what it makes isn't looked through for what could go.
     gc.disable()
-    clauses, asked, proof, answer = (os.path.join(folder, name) for name in ["clauses.cnf", "asked", "proof", "answer"])
+    clauses, asked, proof, answer = (os.path.join(folder, name)
+                                     for name in ["clauses.cnf", "asked", "proof", "answer"])
     with open(clauses, "rb") as file:
         merging = Merging(file.read())
     with open(asked, "xb") as out:
@@ -190,7 +203,8 @@ def main(folder: str, *words: str) -> None:
         is_asked = out.tell() > 0
     # It runs while the begin of the proof is made.
     solver = is_asked and started([*words, asked, proof], answer)
-    begin, status = merging.proof(), os.waitstatus_to_exitcode(os.waitpid(solver, 0)[1]) if solver else 20
+    begin, status = merging.proof(), os.waitstatus_to_exitcode(os.waitpid(solver,
+                                                                          0)[1]) if solver else 20
     sys.stdout.buffer.write(begin if status == 20 else b"")
     if solver:
         with open(proof if status == 20 else answer, "rb") as file:
@@ -203,7 +217,9 @@ def main(folder: str, *words: str) -> None:
 
 
 def started(words: list[str], out: str) -> int:
-    """The number of a process that these words start, without input, and whose output goes into a file. Python ignores what ends a program
-    that writes too much."""
-    streams = [(os.POSIX_SPAWN_OPEN, 0, os.devnull, os.O_RDONLY, 0), (os.POSIX_SPAWN_OPEN, 1, out, os.O_WRONLY | os.O_CREAT | os.O_EXCL, 0o600)]
-    return os.posix_spawnp(words[0], words, os.environ, file_actions=streams, setsigdef=[signal.SIGPIPE, signal.SIGXFSZ])
+    """The number of a process that these words start, without input, and whose output goes into a
+    file. Python ignores what ends a program that writes too much."""
+    streams = [(os.POSIX_SPAWN_OPEN, 0, os.devnull, os.O_RDONLY, 0),
+               (os.POSIX_SPAWN_OPEN, 1, out, os.O_WRONLY | os.O_CREAT | os.O_EXCL, 0o600)]
+    return os.posix_spawnp(words[0], words, os.environ,
+                           file_actions=streams, setsigdef=[signal.SIGPIPE, signal.SIGXFSZ])

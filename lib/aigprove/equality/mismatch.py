@@ -19,7 +19,8 @@ def names_of(circuit: Circuit, letter: str, count: int) -> tuple[list[bytes], bo
 
 
 def alone(path: str, own: tuple[list[bytes], bool], other: tuple[list[bytes], bool]) -> list[str]:
-    """Which names one file has alone, in a list of one, where they tell that: where each signal of the other one has a name."""
+    """Which names one file has alone, in a list of one, where they tell that: where each signal of
+    the other one has a name."""
     names, (others, has_all) = own[0], other
     found = [word(decoded(name)) for name in names if has_all and name not in others]
     more = ["and others"] * (len(found) > NAMED)
@@ -27,7 +28,8 @@ def alone(path: str, own: tuple[list[bytes], bool], other: tuple[list[bytes], bo
 
 
 def told(letter: str, paths: Sequence[str], circuits: Sequence[Circuit], is_named: bool) -> str:
-    """How many signals of a kind two files have, and the names of those that one of them has alone, where they are to have the same."""
+    """How many signals of a kind two files have, and the names of those that one of them has alone,
+    where they are to have the same."""
     what, attribute = SIGNALS[letter]
     counts = [getattr(circuit.header, attribute) for circuit in circuits]
     first, other = (names_of(circuit, letter, count) for circuit, count in zip(circuits, counts))
@@ -37,5 +39,7 @@ def told(letter: str, paths: Sequence[str], circuits: Sequence[Circuit], is_name
 
 
 def mismatch(paths: Sequence[str], circuits: Sequence[Circuit], named: Container[str] = "") -> str:
-    """The line that says why two files don't fit, whose signals of some kinds, by these letters, have other names."""
-    return f"{' and '.join(paths)} don't fit: {', '.join(told(letter, paths, circuits, letter in named) for letter in SIGNALS)}"
+    """The line that says why two files don't fit, whose signals of some kinds, by these letters,
+    have other names."""
+    parts = [told(letter, paths, circuits, letter in named) for letter in SIGNALS]
+    return f"{' and '.join(paths)} don't fit: {', '.join(parts)}"

@@ -1,4 +1,5 @@
-"""The nodes of a circuit in order, and what they are in many runs at once, each of which is a bit of an integer. Nothing here is believed."""
+"""The nodes of a circuit in order, and what they are in many runs at once, each of which is a bit
+of an integer. Nothing here is believed."""
 from __future__ import annotations
 
 import copy
@@ -13,8 +14,8 @@ Known = Sequence[int]
 
 
 class Nodes:
-    """A circuit whose literals are those of 0, its inputs, its latches and its gates, in this order, each gate once; by their places some
-    of its latches start like others."""
+    """A circuit whose literals are those of 0, its inputs, its latches and its gates, in this
+    order, each gate once; by their places some of its latches start like others."""
 
     def __init__(self, circuit: Circuit, alike: Mapping[int, int] | None = None) -> None:
         self.alike = alike or {}
@@ -24,7 +25,8 @@ class Nodes:
         leaves = dict(zip([*circuit.inputs, *circuit.latches], [*self.inputs, *self.latches]))
         literal = literals_of(circuit, self.gates, leaves)
         lists = [circuit.nexts, circuit.bads, circuit.constraints]
-        self.nexts, self.bads, self.constraints = (list(map(literal, literals)) for literals in lists)
+        self.nexts, self.bads, self.constraints = (list(map(literal, literals))
+                                                   for literals in lists)
 
     def all(self) -> range:
         """The literals of all nodes."""
@@ -34,7 +36,8 @@ class Nodes:
         return [*self.inputs, *self.latches]
 
     def first(self, values: Iterable[int], every: int) -> list[int]:
-        """The first values of the latches, by these of those that are open, in the runs of `every`; where this is 1 they may be literals."""
+        """The first values of the latches, by these of those that are open, in the runs of `every`;
+        where this is 1 they may be literals."""
         state = [every * reset if reset < 2 else value for reset, value in zip(self.resets, values)]
         for place, partner in self.alike.items():
             state[place] = state[partner]
@@ -58,7 +61,8 @@ class Nodes:
 
     def next(self, literal: int) -> int:
         """The literal of what a latch, or 0, is in the next step."""
-        return literal if literal < 2 else self.nexts[(literal - self.latches.start) // 2] ^ literal & 1
+        return literal if literal < 2 else self.nexts[
+            (literal - self.latches.start) // 2] ^ literal & 1
 
     def following(self, known: Known) -> list[int]:
         """The next values of the latches."""
@@ -75,7 +79,8 @@ class Nodes:
         return runs
 
     def merged(self, leaves: Sequence[int]) -> tuple[Nodes, list[int]]:
-        """The same where inputs and latches are these literals of them, and the literals that all of its own have there."""
+        """The same where inputs and latches are these literals of them, and the literals that all
+        of its own have there."""
         gates = Gates(self.latches.stop)
         known = self.literals(leaves, gates)
         return self.with_gates(gates, known), known
@@ -84,7 +89,8 @@ class Nodes:
         """The same over other gates, by what its literals are there."""
         made, lists = copy.copy(self), [self.nexts, self.bads, self.constraints]
         made.gates = gates
-        made.nexts, made.bads, made.constraints = ([known[literal] for literal in literals] for literals in lists)
+        made.nexts, made.bads, made.constraints = ([known[literal] for literal in literals]
+                                                   for literals in lists)
         return made
 
     def cone(self, literals: Iterable[int]) -> set[int]:
@@ -96,7 +102,8 @@ class Nodes:
         return seen
 
     def without(self, kept: set[int]) -> tuple[Nodes, list[int]]:
-        """The same with no gates but these, which have all that they read, and the literals that its own have there."""
+        """The same with no gates but these, which have all that they read, and the literals that
+        its own have there."""
         first, gates = self.latches.stop, Gates(self.latches.stop)
         known = [*range(first), *[0] * (self.gates.next - first)]
         for gate, left, right in self.gates.rows:
@@ -115,7 +122,8 @@ class Nodes:
                 # One of two that aren't to be true together.
                 below = choices.pop()
                 if all(values.get(it >> 1) != it ^ 1 for it in below):
-                    left.append(rng.choice([it for it in below if it >> 1 not in values] or below) ^ 1)
+                    left.append(
+                        rng.choice([it for it in below if it >> 1 not in values] or below) ^ 1)
             elif (it := left.pop()) >> 1 not in values:
                 values[it >> 1] = it
                 below = self.gates.rows[(it - first) >> 1][1:] if it >= first else []

@@ -224,7 +224,8 @@ class Pair(Target):
         return [*both, *((letter, i) for letter, count in counts for i in range(count))]
 
     def circuit(self) -> Circuit:
-        """Returns the circuit of the miter, whose properties have the names of what they compare."""
+        """Returns the circuit of the miter, whose properties have the names of what they
+        compare."""
         circuit, first = self.checker.circuit(self.miter, "MITER"), self.first.circuit()
         circuit.names.update((("b", i), first.name(*place) if place else b"constraints")
                              for i, place in enumerate(self.compared()))
@@ -272,7 +273,8 @@ class Pair(Target):
                     "names, too"
 
     def same_free(self) -> Iterator[str]:
-        """Yields the line of values that both designs leave open, and that are inputs of one name."""
+        """Yields the line of values that both designs leave open, and that are inputs of one
+        name."""
         free = [dict.fromkeys(it.design.left_open) for it in [self.first, self.other] if it.design]
         both = [word(name) for name in free[0] if name in free[1]] if len(free) == 2 else []
         if both:

@@ -1,5 +1,6 @@
-"""Signals that correspond: a program that has ABC find which nodes of a circuit of two files are always equal, or each other's inverse, and
-prints a certificate that says so. Nothing here is believed."""
+"""Signals that correspond: a program that has ABC find which nodes of a circuit of two files are
+always equal, or each other's inverse, and prints a certificate that says so. Nothing here is
+believed."""
 from __future__ import annotations
 
 import collections
@@ -17,18 +18,20 @@ from aigprove.equality.nodes import Nodes
 from aigprove.output.messages import ending
 from aigprove.processes.folder import Folder
 
-# What ABC does with a machine each of whose nodes is an output: it unites nodes of which a step shows that they are always equal. With nodes of
-# next steps it moves registers forward before that, so that those of one time meet, and looks at two steps. Outputs are of one literal then,
-# or of it and its inverse.
+# What ABC does with a machine each of whose nodes is an output: it unites nodes of which a step
+# shows that they are always equal. With nodes of next steps it moves registers forward before that,
+# so that those of one time meet, and looks at two steps. Outputs are of one literal then, or of it
+# and its inverse.
 UNITE = "read_aiger nodes.aig; {}; write_aiger united.aig"
 PRESENT, MOVED = "scorr", "dretime -m; zero; scorr -F 2"
-# Classes of nodes of next steps alone are left out where at most this part of the gates is left then. Else they stay: a step may keep the
-# others with them alone.
+# Classes of nodes of next steps alone are left out where at most this part of the gates is left
+# then. Else they stay: a step may keep the others with them alone.
 PART = 0.9
 
 
 def machine(nodes: Nodes) -> bytes:
-    """A machine in binary form that has some nodes as its outputs, from the first latch on, and whose latches are 0 at first."""
+    """A machine in binary form that has some nodes as its outputs, from the first latch on, and
+    whose latches are 0 at first."""
     if any(nodes.resets):
         return begun(nodes)
     outputs = range(nodes.latches.start, nodes.all().stop, 2)
@@ -36,15 +39,16 @@ def machine(nodes: Nodes) -> bytes:
 
 
 def begun(nodes: Nodes) -> bytes:
-    """The same where latches are 1 at first, or open: the latch behind all others says whether the machine has begun, and else an input is an
-    open latch's value."""
+    """The same where latches are 1 at first, or open: the latch behind all others says whether the
+    machine has begun, and else an input is an open latch's value."""
     count, latches = len(nodes.inputs), len(nodes.latches)
     opened = [i for i, reset in enumerate(nodes.resets) if reset > 1 and i not in nodes.alike]
     first = 2 * (1 + count + len(opened))
     own, gates = range(first, first + 2 * latches, 2), Gates(first + 2 * latches + 2)
     free = dict(zip(opened, range(nodes.inputs.stop, first, 2)))
     start = nodes.first([free.get(i, 0) for i in range(latches)], 1)
-    state = [latch ^ value if value < 2 else gates.choice(own.stop, latch, value) for latch, value in zip(own, start)]
+    state = [latch ^ value if value < 2 else gates.choice(own.stop, latch, value)
+             for latch, value in zip(own, start)]
     known = nodes.literals([*nodes.inputs, *state], gates)
     nexts = [literal ^ (value == 1) for literal, value in zip(nodes.following(known), start)]
     return binary(count + len(opened), [*nexts, 1], known[nodes.latches.start::2], gates)
@@ -59,7 +63,8 @@ def outputs(data: bytes) -> list[int]:
 
 
 def rows(nodes: Nodes, literals: Iterable[int]) -> list[list[int]]:
-    """Classes of nodes, by what stands for each from the first latch on; that of 0 is the first one."""
+    """Classes of nodes, by what stands for each from the first latch on; that of 0 is the first
+    one."""
     found = collections.defaultdict(list, {0: [0]})
     for node, literal in zip(range(nodes.latches.start, nodes.all().stop, 2), literals):
         found[literal & ~1].append(node ^ literal & 1)
@@ -67,7 +72,9 @@ def rows(nodes: Nodes, literals: Iterable[int]) -> list[list[int]]:
 
 
 class Found(Steps):
-    """Classes that ABC found, which random steps don't split. That a step keeps them may be taken as it is."""
+    """Classes that ABC found, which random steps don't split.
+
+    That a step keeps them may be taken as it is."""
 
     def __init__(self, classes: Classes, solver: IncrementalQueries, is_taken: bool) -> None:
         super().__init__(classes, solver)
@@ -84,9 +91,11 @@ class FoundSignals(Guesses):
     """What ABC finds to be equal in a circuit of two files."""
 
     def guesses(self) -> Iterator[Guess]:
-        """Nodes, if the files have as many latches, and those of the next steps with them, where nothing bad is left."""
+        """Nodes, if the files have as many latches, and those of the next steps with them, where
+        nothing bad is left."""
         # ABC moves no registers where there are none.
-        ways = [*[0] * (self.counts[0] == self.counts[1]), max(AHEAD)] if self.circuit.latches else []
+        ways = [*[0] * (self.counts[0] == self.counts[1]),
+                max(AHEAD)] if self.circuit.latches else []
         for steps in ways:
             stop, nodes = self.nodes_ahead(steps)
             own = rows(nodes, self.united(nodes, MOVED if steps else PRESENT))
@@ -98,11 +107,13 @@ class FoundSignals(Guesses):
                 yield Found(fewer if is_less else classes, self.solver, self.given["is_taken"])
 
     def united(self, nodes: Nodes, commands: str) -> list[int]:
-        """What stands for each node, from the first latch on, in the circuit that commands of ABC leave."""
+        """What stands for each node, from the first latch on, in the circuit that commands of ABC
+        leave."""
         with Folder(self.solver.above) as folder:
             with folder.make("nodes.aig") as out:
                 out.write(machine(nodes))
-            if status := folder.run(self.solver.task, [self.given["abc"], "-q", UNITE.format(commands)]):
+            if status := folder.run(self.solver.task,
+                                    [self.given["abc"], "-q", UNITE.format(commands)]):
                 raise Fault(f"ABC {ending(status)}")
             return outputs(folder.taken("united.aig", "circuit").data())
 

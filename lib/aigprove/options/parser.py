@@ -171,7 +171,8 @@ def add_limits(it: argparse.ArgumentParser) -> None:
                     help=BOUND)
     it.add_argument("--timeout", metavar="S", help="end after so many seconds, with those of yosys "
                     "(never)", type=words.count(r"[0-9]{1,9}(\.[0-9]{1,9})?", "seconds", float))
-    it.add_argument("--limit", metavar="N", help="take circuits of so many nodes, up to 2^31 (2^24)",
+    it.add_argument("--limit",
+                    metavar="N", help="take circuits of so many nodes, up to 2^31 (2^24)",
                     type=words.count("[1-9][0-9]{0,9}", "nodes", int, most=1 << 31))
     it.add_argument("--memory", metavar="N", help=MEMORY,
                     type=words.count("[1-9][0-9]{0,9}", "MiB", mebibytes, most=1 << 62))

@@ -11,7 +11,8 @@ from aigprove.questions.checker import Claim
 # How the path of a file in the folder above begins.
 ABOVE = "../"
 HEAD = """#!/bin/sh
-# Shows again what aigprove printed, by the aigcheck and aigedit that AIGCHECK and AIGEDIT name, or that are found.
+# Shows again what aigprove printed, by the aigcheck and aigedit that AIGCHECK and AIGEDIT name, \
+or that are found.
 check=${AIGCHECK:-aigcheck}
 edit=${AIGEDIT:-aigedit}
 limit=

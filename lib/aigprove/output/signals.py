@@ -1,8 +1,10 @@
-"""How signals and their values are printed: by their names, bits of one word as a number, and so that no name drives a terminal.
+"""How signals and their values are printed: by their names, bits of one word as a number, and so
+that no name drives a terminal.
 
-A name is printed as it is where it is a plain word, and else as a JSON string, behind its place (i0, l0) where another signal has
-it too; a signal without a name is printed by its place. The bits `d[0]` to `d[7]` are printed as `d=8'hff`, in base two where one
-doesn't matter: x is printed as -."""
+A name is printed as it is where it is a plain word, and else as a JSON string, behind its place
+(i0, l0) where another signal has it too; a signal without a name is printed by its place. The bits
+`d[0]` to `d[7]` are printed as `d=8'hff`, in base two where one doesn't matter: x is printed as
+-."""
 from __future__ import annotations
 
 import collections
@@ -15,7 +17,8 @@ from aigprove.circuits.aiger import Circuit, decoded, encoded
 from aigprove.circuits.witness import Witness
 from aigprove.output.waves import grouped, words
 
-# How many steps that are equal are printed as one line, at least; and how many lines of a run are printed, at its begin and its end.
+# How many steps that are equal are printed as one line, at least; and how many lines of a run are
+# printed, at its begin and its end.
 EQUAL, FIRST, LAST = 3, 10, 50
 # How many inputs are printed of which no value matters.
 MOST = 20
@@ -41,10 +44,13 @@ class Signals:
 
     def __init__(self, circuit: Circuit) -> None:
         self.names = {f"{letter}{i}": decoded(name) for (letter, i), name in circuit.names.items()}
-        self.times = collections.Counter(name for place, name in self.names.items() if place[0] in "il")
+        self.times = collections.Counter(name
+                                         for place, name in self.names.items() if place[0] in "il")
         if circuit.header.is_old:
-            self.names.update({"b" + place[1:]: name for place, name in self.names.items() if place[0] == "o"})
-        self.buses = {"i": self.find_buses("i", len(circuit.inputs)), "l": self.find_buses("l", len(circuit.latches))}
+            self.names.update({"b" + place[1:]: name
+                               for place, name in self.names.items() if place[0] == "o"})
+        self.buses = {"i": self.find_buses("i", len(circuit.inputs)),
+                      "l": self.find_buses("l", len(circuit.latches))}
         # The places of what isn't printed.
         self.hidden: set[str] = set()
 
@@ -52,11 +58,13 @@ class Signals:
         """The places of the bits of each word of one kind, whose name is a plain word."""
         own = [encoded(self.names.get(f"{letter}{i}", "")) for i in range(count)]
         found = {decoded(name): places for name, places in words(own).items()}
-        return {name: places for name, places in found.items() if PLAIN.fullmatch(name) and self.is_single(name, letter, places)}
+        return {name: places for name, places in found.items()
+                if PLAIN.fullmatch(name) and self.is_single(name, letter, places)}
 
     def is_single(self, name: str, letter: str, places: Iterable[int]) -> bool:
         """Whether no other input or latch has the name of a word or of one of its bits."""
-        return self.times[name] == 0 and all(self.times[self.names[f"{letter}{i}"]] == 1 for i in places)
+        return self.times[name] == 0 and all(self.times[self.names[f"{letter}{i}"]] == 1
+                                             for i in places)
 
     def signal(self, place: str) -> str:
         """How an input or a latch is printed."""
@@ -70,23 +78,30 @@ class Signals:
         place = f"{letter}{position}"
         return " ".join([place, *(word(self.names[place]) for _ in range(place in self.names))])
 
-    def values(self, letter: str, values: Sequence[str], places: set[int] | None = None) -> list[str]:
+    def values(self, letter: str, values: Sequence[str],
+               places: set[int] | None = None) -> list[str]:
         """The values of inputs or latches: of all, or of those at these places."""
         shown = []
         for name, own in grouped(len(values), self.buses[letter]):
-            if f"{letter}{own[0]}" not in self.hidden and (places is None or not places.isdisjoint(own)):
+            if f"{letter}{own[0]}" not in self.hidden and (places is None
+                                                           or not places.isdisjoint(own)):
                 bits = [values[i] for i in own]
-                shown.append(f"{name}={number(bits)}" if name else f"{self.signal(f'{letter}{own[0]}')}={number(bits)}")
+                shown.append(f"{name}={number(bits)}"
+                             if name else f"{self.signal(f'{letter}{own[0]}')}={number(bits)}")
         return shown
 
-    def lines(self, trace: Witness, latches: set[int], changes: Mapping[int, Sequence[str]]) -> Iterator[str]:
-        """The lines of a run: the values of these latches at first, and for each step the inputs, and what else changed, behind a bar."""
+    def lines(self, trace: Witness,
+              latches: set[int], changes: Mapping[int, Sequence[str]]) -> Iterator[str]:
+        """The lines of a run: the values of these latches at first, and for each step the inputs,
+        and what else changed, behind a bar."""
         yield spaced("start:", *self.values("l", trace.start, latches))
         steps, count = [], len(trace.steps[0])
         is_short = len(grouped(count, self.buses["i"])) <= MOST
-        mattering = None if is_short else {i for i in range(count) if any(row[i] != "x" for row in trace.steps)}
+        mattering = None if is_short else {i for i in range(count)
+                                           if any(row[i] != "x" for row in trace.steps)}
         for t, inputs in enumerate(trace.steps):
-            steps.append(spaced(*self.values("i", inputs, mattering), *["|", *changes.get(t, [])] * bool(changes.get(t))))
+            steps.append(spaced(*self.values("i", inputs, mattering),
+                                *["|", *changes.get(t, [])] * bool(changes.get(t))))
         yield from folded(steps)
 
 
@@ -103,6 +118,8 @@ def folded(steps: Iterable[str]) -> Iterator[str]:
         lines += [(first, last, text) for first, last in spans]
         t += count
     if len(lines) > FIRST + LAST:
-        lines[FIRST:-LAST] = [(lines[FIRST][0], lines[-LAST][0] - 1, "as --witness and --vcd write them")]
+        lines[FIRST:-LAST] = [(lines[FIRST][0],
+                               lines[-LAST][0] - 1, "as --witness and --vcd write them")]
     for first, last, text in lines:
-        yield spaced(f"step {first}:" if first == last else f"steps {first} to {last}:", *[text] * bool(text))
+        yield spaced(f"step {first}:" if first == last else f"steps {first} to {last}:",
+                     *[text] * bool(text))

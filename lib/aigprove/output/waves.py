@@ -18,8 +18,8 @@ PATH = re.compile(rb"((?:[A-Za-z_][A-Za-z0-9_$]*\.)+)(.+)", re.DOTALL)
 
 
 def words(names: Sequence[bytes]) -> Words:
-    """The places of the bits of each word among names, the lowest bit first: `d[0]`, `d[1]` and so on, at least two, each once,
-    where nothing else is named `d`."""
+    """The places of the bits of each word among names, the lowest bit first: `d[0]`, `d[1]` and so
+    on, at least two, each once, where nothing else is named `d`."""
     found, times = collections.defaultdict[bytes, dict[int, int]](dict), collections.Counter(names)
     for i, name in enumerate(names):
         bit = BIT.fullmatch(name)
@@ -33,7 +33,8 @@ def words(names: Sequence[bytes]) -> Words:
 
 
 def grouped(count: int, found: Mapping[T, Sequence[int]]) -> list[tuple[T | None, Sequence[int]]]:
-    """The name and the places of each of these words, where its lowest bit is, and no name and the place of what is in none."""
+    """The name and the places of each of these words, where its lowest bit is, and no name and the
+    place of what is in none."""
     starts = {places[0]: (name, places) for name, places in found.items()}
     inner = {i for places in found.values() for i in places[1:]}
     return [starts.get(i, (None, [i])) for i in range(count) if i not in inner]
@@ -43,7 +44,8 @@ def reference(name: bytes) -> str:
     """A name as VCD has it: an identifier, or one that is escaped, of printable bytes."""
     if SIMPLE_NAME.fullmatch(name):
         return name.decode()
-    return "\\" + "".join(chr(byte) if 33 <= byte <= 126 and byte != ord("%") else f"%{byte:02X}" for byte in name)
+    return "\\" + "".join(chr(byte) if 33 <= byte <= 126 and byte != ord("%") else f"%{byte:02X}"
+                          for byte in name)
 
 
 def code(number: int) -> str:
@@ -76,17 +78,20 @@ class Variable:
 
 
 def variables(circuit: Circuit) -> Iterator[tuple[str, list[Variable]]]:
-    """The variables of each kind: its words, each in the place of its lowest bit, and its other signals."""
+    """The variables of each kind: its words, each in the place of its lowest bit, and its other
+    signals."""
     numbers = itertools.count()
     for letter, group in itertools.groupby(circuit.signals(), key=lambda signal: signal[0]):
         literals = [literal for _, _, literal in group]
         names = [circuit.name(letter, i) for i in range(len(literals))]
         places = grouped(len(names), words(names) if letter in "ilo" else {})
-        yield letter, [Variable(next(numbers), name or names[own[0]], [literals[i] for i in own]) for name, own in places]
+        yield letter, [Variable(next(numbers), name or names[own[0]], [literals[i] for i in own])
+                       for name, own in places]
 
 
 def declarations(made: Iterable[Variable]) -> Iterator[str]:
-    """The declarations of variables that stand in the order of their scopes, which are opened and closed between them."""
+    """The declarations of variables that stand in the order of their scopes, which are opened and
+    closed between them."""
     opened: list[str] = []
     for it in made:
         pairs = list(zip(opened, it.scopes))
@@ -98,8 +103,11 @@ def declarations(made: Iterable[Variable]) -> Iterator[str]:
     yield from ["$upscope $end"] * len(opened)
 
 
-def dump(circuit: Circuit, state: Sequence[str], inputs: Sequence[Sequence[str]], loop: int | None = None) -> Iterator[str]:
-    """The lines of the value change dump. Of a run that comes again and again from a step on, the signal `loop` is 1 from there on."""
+def dump(circuit: Circuit, state: Sequence[str],
+         inputs: Sequence[Sequence[str]], loop: int | None = None) -> Iterator[str]:
+    """The lines of the value change dump.
+
+    Of a run that comes again and again from a step on, the signal `loop` is 1 from there on."""
     made = list(variables(circuit))
     mark = code(sum(len(own) for _, own in made))
     yield "$comment a time unit is a step $end"

@@ -1,4 +1,5 @@
-"""Files that were named: what is read is copied in blocks to where nobody can write it, and unpacked there, up to a limit."""
+"""Files that were named: what is read is copied in blocks to where nobody can write it, and
+unpacked there, up to a limit."""
 from __future__ import annotations
 
 import gzip
@@ -10,7 +11,8 @@ from collections.abc import Iterable
 from aigprove.circuits.aiger import LIMIT, Fault
 from aigprove.processes.sealed import Readable, Sealed
 
-# How many bytes a file may have for each node: the line of a gate has at most 33, and the rest is for lists, names and the comment.
+# How many bytes a file may have for each node: the line of a gate has at most 33, and the rest is
+# for lists, names and the comment.
 NODE = 64
 PACKED = b"\x1f\x8b"
 
@@ -30,7 +32,8 @@ class Limited:
 
 
 def sealed(path: str, limit: int | None = None) -> Sealed:
-    """A sealed copy of a file, or of what gzip packed there: of a regular file or a pipe, with so many nodes at most."""
+    """A sealed copy of a file, or of what gzip packed there: of a regular file or a pipe, with so
+    many nodes at most."""
     mode, most = os.stat(path).st_mode, NODE * max(limit or LIMIT, LIMIT)
     if stat.S_ISCHR(mode) or stat.S_ISBLK(mode):
         raise Fault(f"{path} is a device")

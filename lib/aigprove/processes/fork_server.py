@@ -94,7 +94,8 @@ def run(module: ModuleType, words: Sequence[str], folder: str) -> None:
         close_others(set())
         os.chdir(folder)
         os.environ["TMPDIR"] = tempfile.tempdir = folder
-        set_streams({0: (os.devnull, os.O_RDONLY), 1: ("out", os.O_WRONLY), 2: ("err", os.O_WRONLY)})
+        set_streams({0: (os.devnull, os.O_RDONLY),
+                     1: ("out", os.O_WRONLY), 2: ("err", os.O_WRONLY)})
         status = status_of(module.main, words)
         sys.stdout.flush()
     finally:

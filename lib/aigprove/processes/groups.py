@@ -113,4 +113,3 @@ class Group:
         """Lets it, and each process that it starts, have so many bytes of memory."""
         with contextlib.suppress(OSError):
             resource.prlimit(self.process.pid, resource.RLIMIT_AS, (most, most))
-

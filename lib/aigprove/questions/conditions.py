@@ -1,5 +1,6 @@
-"""The conditions by which a witness circuit simulates a file, and has an inductive property that implies the file's. Which of its inputs and
-latches stand for the file's its names say, or else their order. What is asked about them is aigcheck's; names are told alone."""
+"""The conditions by which a witness circuit simulates a file, and has an inductive property that
+implies the file's. Which of its inputs and latches stand for the file's its names say, or else
+their order. What is asked about them is aigcheck's; names are told alone."""
 from __future__ import annotations
 
 import re
@@ -12,7 +13,8 @@ from aigprove.processes.sealed import Sealed, Word
 from aigprove.questions.checker import Query, Question
 
 CONDITIONS = ["reset", "transition", "property", "base", "step"]
-# How a name begins that says for which literal of the file a leaf stands, a line of such a name, and one that has a number.
+# How a name begins that says for which literal of the file a leaf stands, a line of such a name,
+# and one that has a number.
 STANDS = b"= "
 LINE, NAME = re.compile(rb"^[il][0-9]+ " + STANDS, re.M), re.compile(STANDS + rb"([0-9]+)")
 
@@ -51,8 +53,9 @@ def told(broken: Iterable[str]) -> list[str]:
 
 
 def with_open_resets(circuit: Circuit, starts: bool) -> None:
-    """Has latches whose resets are functions start open, and, where it `starts`, by a constraint with the values of these: the same for a
-    question about step 0, and for one about steps from any state without it. Programs that know no such resets take it."""
+    """Has latches whose resets are functions start open, and, where it `starts`, by a constraint
+    with the values of these: the same for a question about step 0, and for one about steps from any
+    state without it. Programs that know no such resets take it."""
     gates = Gates(2 * (circuit.header.counts[0] + 1))
     for i in circuit.opened():
         latch, reset = circuit.latches[i], circuit.resets[i]
@@ -66,12 +69,16 @@ def with_open_resets(circuit: Circuit, starts: bool) -> None:
 def leaves(circuit: Circuit) -> dict[int, tuple[str, int]]:
     """The places of the inputs and latches, by their literals."""
     lists = [("i", circuit.inputs), ("l", circuit.latches)]
-    return {literal: (letter, i) for letter, literals in lists for i, literal in enumerate(literals)}
+    return {literal: (letter, i) for letter,
+            literals in lists for i, literal in enumerate(literals)}
 
 
 def name_shared(circuit: Circuit, file: Circuit, named: Circuit) -> None:
-    """Gives the leaves of a witness circuit that stand for the file's the names that these have where they are told."""
-    given, found = leaves(file), {place: NAME.fullmatch(name) for place, name in circuit.names.items()}
+    """Gives the leaves of a witness circuit that stand for the file's the names that these have
+    where they are told."""
+    given, found = leaves(file), {place: NAME.fullmatch(name)
+                                  for place, name in circuit.names.items()}
     by_name = {place: given.get(int(name[1])) for place, name in found.items() if name}
     by_order = {place: place for place in leaves(circuit).values() if place in given.values()}
-    circuit.names.update((place, named.name(*of)) for place, of in (by_name or by_order).items() if of)
+    circuit.names.update((place, named.name(*of))
+                         for place, of in (by_name or by_order).items() if of)

@@ -1,0 +1,256 @@
+"""Reading a design by yosys, as far as its top module has it, and what isn't asked about in it."""
+from __future__ import annotations
+
+import functools
+import os
+import re
+from collections.abc import Container, Iterable, Iterator, Mapping, Sequence
+
+from aigprove.circuits.aiger import Fault
+from aigprove.designs import rtlil, scripts
+from aigprove.designs.front_ends import (AGAIN, ASSERT, COVER, FAIR, FRONTS, LIVE, LOOKING, REFUSED,
+                                         STRICT, VERILOG, WARNED, File, Way)
+from aigprove.designs.rtlil import Cell, base_of, modules_of, source_of
+from aigprove.designs.texts import BIND, Text, bound, expanded, moved
+from aigprove.designs.yosys import Run, Yosys
+from aigprove.options.options import DesignOptions
+from aigprove.processes.scheduler import Task
+
+KINDS = {"$assert": "assertion", "$assume": "assumption",
+         "$cover": "cover", "$live": "liveness assertion", "$fair": "fairness assumption"}
+BOX, TOP = (f"\nattribute \\{name} 1\n" for name in ["blackbox", "top"])
+ASKED = ("$assert", "$assume")
+WORD = re.compile(r"[A-Za-z_][A-Za-z0-9_$]*")
+PARAMETER = re.compile(r"^  parameter \\(\S+)", re.MULTILINE)
+# By what yosys says: what to do.
+HINTS = {
+    "is not part of the design": "give its file too, or its ports alone, as an empty module",
+    "open include file": "-I FOLDER says where it is",
+    "syntax error": "what yosys doesn't read another front end may: it is taken as an .il file, "
+    "or by a script of yosys, .ys",
+}
+
+
+def asked_below(cells: Iterable[Cell], modules: Container[str]) -> int:
+    """How many assertions, and such of liveness, these modules have."""
+    return sum(cell.type in (ASSERT, LIVE) and cell.module[1:] in modules for cell in cells)
+
+
+class ReadDesign:
+    """A design that yosys reads in a folder."""
+
+    def __init__(self, files: Sequence[File],
+                 options: DesignOptions, folder: str, task: Task) -> None:
+        if options.top and not WORD.fullmatch(options.top):
+            raise Fault(f"{options.top} is no name of a module")
+        self.files, self.options, self.reset = files, options, options.reset
+        self.yosys = Yosys(files, folder, task, options.deadline)
+        self.yosys.put("defines.v",
+                       "".join(f"`define {name} {value}\n" for name, value in options.define))
+        for name in scripts.MAPS:
+            with open(os.path.join(os.path.dirname(__file__), f"{name}.v"),
+                      encoding="utf-8") as file:
+                self.yosys.put(f"aigprove_{name}.v", file.read())
+        self.yosys.put("aigprove_cover.v", scripts.COVERED)
+        if self.reset:
+            self.put_reset()
+        self.reading: Run | None = None
+        try:
+            self.left_out = self.read(options.top)
+        except Fault:
+            # A fault of yosys's comes first.
+            if self.reading:
+                self.reading.printed()
+            raise
+
+    def read(self, top: str | None) -> list[tuple[str, str]]:
+        """Reads the design as far as its top module has it, and gives lines of what isn't asked
+        about."""
+        every, below = self.read_below(top and f"-top {top}" or "-auto-top")
+        others = [] if top else [name for name in rtlil.roots_of(every) if name not in below]
+        # Where yosys takes one without an assertion: the one below which most are, or the last of
+        # these.
+        better = max(reversed(others),
+                     key=lambda name: asked_below(every, rtlil.reached(every, name)), default="")
+        if not asked_below(every, below) and asked_below(
+                every, rtlil.reached(every, better)) and WORD.fullmatch(better):
+            others = [name for name in rtlil.roots_of(every) if name != better]
+            self.read_on()
+            every, below = self.read_below(f"-top {better}")
+        if self.options.parameter:
+            # Yosys sets parameters of a top module that is named.
+            self.read_on()
+            every, below = self.read_below(f"-top {self.top}{self.parameters()}")
+        lines = [("", f"{name} is a top module too, and not asked about") for name in others]
+        return lines + [line for cell in every
+                        for line in self.passed_over(cell, cell.module[1:] in below)]
+
+    def script(self, top: str, way: Way, made: str,
+               is_ready: str, copies: Mapping[str, str], folders: Iterable[str]) -> str:
+        """The script that reads the design as far as a top module has it, in this way."""
+        words = {"include": " ".join(f"-I {folder}" for folder in folders),
+                 "words": way.words, "inner": way.inner}
+        fronts = [FRONTS[file.kind].format(file=copies[file.path], **words) for file in self.files]
+        if self.options.define:
+            fronts.insert(0, VERILOG.format(file=f"{made}/defines.v", include="", words=""))
+        # A box whose outputs are free is an empty module.
+        fronts += [f"setattr -mod -unset blackbox ={name}" for name in self.options.black_box]
+        return (scripts.LOOK if way in (LOOKING, AGAIN) else scripts.READ).format(
+            fronts="\n".join(fronts), top=top, made=made, is_ready=is_ready)
+
+    def edges(self) -> str:
+        """The lines that make registers of any clocks such of all steps, where that is wanted."""
+        return scripts.EDGES.format(
+            reset=self.resetting(scripts.AT_EDGES)) if self.options.multiclock else ""
+
+    def read_below(self, top: str) -> tuple[list[Cell], set[str]]:
+        """Begins to read the design as far as a top module has it, and gives all its cells, and the
+        names of the top module and those below."""
+        try:
+            text = self.declared(top)
+        except Fault as why:
+            told = self.yosys.told(str(why))
+            raise type(why)("; ".join(
+                [told, *(hint for said, hint in HINTS.items() if said in told)])) from None
+        if place := rtlil.item_of_x(text):
+            raise Fault(f"{self.yosys.told(place)}: an item of this case is x or z")
+        modules = modules_of(text)
+        rtlil.check_constants(modules)
+        below = {base_of(name) for name in modules}
+        covers, lives = (f"\n  cell {kind} " in text for kind in (COVER, LIVE))
+        self.has_covers, self.has_lives = covers, lives and not self.options.multiclock
+        self.partial = scripts.TOTAL if scripts.PARTIAL.search(text) else ""
+        self.memories = (scripts.MEMORIES
+                         if scripts.MEMORY.search(text) else "{edges}").format(edges=self.edges())
+        if not below:
+            raise Fault(f"{self.yosys.path} has no module")
+        self.top = next((base_of(name) for name, own in modules.items() if TOP in own), "")
+        if not self.top:
+            raise Fault(f"{self.yosys.path} has no module that isn't empty or a black box")
+        self.yosys.put("below.il", rtlil.opened(rtlil.by_modules(rtlil.renamed,
+                                                                 self.freed_boxes(text, modules))))
+        return list(rtlil.cells_of(self.yosys.text("all.il"))), below
+
+    def begin(self, top: str,
+              way: Way, texts: Mapping[str, bytes], before: Sequence[int] = ()) -> Run:
+        """Begins to read the design as far as a top module has it, in this way, with these texts of
+        its Verilog files, in which folders have descriptors that they had before."""
+
+        def texts_now(now: Sequence[int]) -> dict[str, bytes]:
+            return {path: moved(text, before, now) + way.end for path, text in texts.items()}
+
+        script = functools.partial(self.script, top, way)
+        self.reading = self.yosys.read(script, self.options.include, texts_now)
+        return self.reading
+
+    def read_on(self) -> str:
+        """Waits for the end of the run that reads the design, and gives what it prints."""
+        assert self.reading
+        return self.reading.printed()
+
+    def given(self) -> dict[str, bytes]:
+        """The texts of the Verilog files."""
+        return {file.path: file.data for file in self.files if FRONTS[file.kind] == VERILOG}
+
+    def declared(self, top: str) -> str:
+        """Begins to read the design as far as a top module has it, and gives that in yosys's own
+        language, in which each name is declared."""
+        try:
+            reading = self.begin(top, STRICT, self.given())
+            texts = [Text(text) for text in expanded(reading.data())]
+            binds = any(BIND.search(text.words) for text in texts)
+            if not WARNED.search(reading.said()) and not binds:
+                whole = self.yosys.text("below.il")
+                rtlil.check_names(self.check_texts(texts, whole))
+                is_joined = "\n  attribute \\hierconn " in whole
+                self.flat = scripts.FLAT_FIRST if is_joined else scripts.FLAT
+                return whole
+            reading.printed()
+        except Fault as why:
+            if not REFUSED.search(str(why)):
+                raise
+        return self.looked_up(top)
+
+    def check_texts(self, texts: Iterable[Text], whole: str) -> dict[str, str]:
+        """Refuses what yosys reads otherwise in these texts of a whole design, and gives its
+        modules in yosys's own language."""
+        modules = modules_of(whole)
+        for text in texts:
+            text.check(set(map(source_of, modules)))
+        return modules
+
+    def looked_up(self, top: str) -> str:
+        """The same, where names are looked up first, and what is bound to modules is put into
+        them."""
+        # What looks names up takes long to be compiled.
+        from aigprove.designs.names import Names
+
+        reading = self.begin(top, LOOKING, self.given())
+        said, before = reading.printed(), self.yosys.descriptors
+        texts = dict(zip(self.given(), expanded(reading.data())))
+        self.check_texts(map(Text, texts.values()), self.yosys.text("below.il"))
+        if any(BIND.search(Text(text).words) for text in texts.values()):
+            texts = bound(texts)
+            said = self.begin(top, AGAIN, texts, before).printed()
+        names = Names(self.yosys, texts, said)
+        try:
+            reading = self.begin(top, names.way, names.declaring(), before)
+        except Fault as why:
+            raise names.unknown(str(why)) or why from None
+        self.flat = scripts.FLAT_FIRST
+        return names.checked(self.yosys.text("below.il"), reading.said())
+
+    def parameters(self) -> str:
+        """The words that set parameters of the top module, which has to have them: yosys passes
+        over others."""
+        known = PARAMETER.findall(modules_of(self.yosys.text("all.il")).get(f"\\{self.top}", ""))
+        for name, _ in self.options.parameter:
+            if name not in known:
+                raise Fault(f"{self.top} has no parameter {name}"
+                            + (f", but {', '.join(known)}" if known else ""))
+        return "".join(f" -chparam {name} {value}" for name, value in self.options.parameter)
+
+    def freed_boxes(self, text: str, modules: Mapping[str, str]) -> str:
+        """The design with modules in the place of black boxes whose outputs are to be free; others
+        that it has are refused."""
+        boxes = {name: own for name, own in modules.items() if BOX in own}
+        known = set(map(base_of, modules))
+        for name in self.options.black_box:
+            if name not in known:
+                raise Fault(f"{name} is no module of the design")
+        for name, own in boxes.items():
+            if base_of(name) in self.options.black_box:
+                text = text.replace(own, own.replace(BOX, "\n"))
+            elif f"\n  cell {name} " in text:
+                why = f"{base_of(name)} is a black box: " \
+                    "give its file too, or let its outputs have any values"
+                raise Fault(f"{why} (--black-box {base_of(name)})")
+        return text
+
+    def passed_over(self, cell: Cell, is_below: bool) -> Iterator[tuple[str, str]]:
+        """A line of an assertion, or another such cell, that no bad state or constraint stands for,
+        and its kind where another question may be about it: it has to be in a module below the top,
+        and one of liveness to have one clock."""
+        if cell.type in KINDS and not (is_below and cell.type in ASKED):
+            is_later = is_below and (cell.type == COVER or self.has_lives)
+            why = " with --multiclock" * (self.options.multiclock and cell.type in (LIVE, FAIR))
+            what = f"{KINDS[cell.type]} {cell.label} ({self.yosys.told(cell.place)})"
+            yield cell.type if is_later else "", f"{what} is not asked about{why}"
+
+    def put_reset(self) -> None:
+        """Puts cells into the folder for assertions, and for the assumption that the reset is held,
+        which count its steps."""
+        assert self.reset
+        value, steps = self.reset.value, self.reset.steps
+        asked = {"kind": "$assert", "value": "A", "enabled": "EN & left == 0"}
+        held = {"kind": "$assume", "value": f"A == {value}", "enabled": "left != 0"}
+        cells = [("held", scripts.COUNTING, steps, held), ("asked", scripts.COUNTING, steps, asked)]
+        cells.append(("late", scripts.SAMPLING, steps, {})
+                     if self.options.multiclock else ("late", scripts.COUNTING, steps + 1, asked))
+        for name, text, count, words in cells:
+            self.yosys.put(f"aigprove_{name}.v",
+                           text.format(steps=count, high=count.bit_length() - 1, **words))
+
+    def resetting(self, late: str) -> str:
+        """The lines that use these cells, if there is a reset."""
+        return scripts.RESET.format(signal=self.reset.signal, late=late) if self.reset else ""
