@@ -46,6 +46,18 @@ sim -clock clk -r trace.aiw -map model/design_aiger.aim {top}
 """
 
 
+# What Python runs: aigprove, whose engines of ABC have a defect.
+DEFECT = """import sys
+sys.path.insert(0, sys.argv.pop(1))
+from aigprove import command
+from aigprove.engines.abc import Abc
+def run(engine):
+    raise KeyError("defect")
+Abc.run = run
+command.main()
+"""
+
+
 def called(solver, folder):
     """The status, the trace and the exit status, as the tool reads them off its process, both of whose streams are one."""
     words = ["sh", "-c", f"cd {folder}; {solver} model/design_aiger.aig"]
@@ -88,8 +100,21 @@ def flows(tally, folder):
             tally.check("Warning: Assert" in last, f"{design}: no assertion fails in the last step of {trace}")
 
 
+def defects(tally):
+    """An exception in aigprove's own code is told as its own, with a traceback if it is wanted, and other engines go on."""
+    queue, told = str(TOP / "examples" / "queue.v"), b"aigprove: internal error: KeyError: 'defect'\n"
+    for options, wanted in [("-q --engine bmc3", (1, b"")), ("-q --engine bmc3,steps", (10, b"a bad state at step 4: b0\n"))]:
+        status, out, said = harness.run([sys.executable, "-c", DEFECT, str(TOP / "lib"), *options.split(), queue])
+        tally.wants(options, (*wanted, told), (status, out, said))
+    status, _, said = harness.run([sys.executable, "-c", DEFECT, str(TOP / "lib"), "-v", "--engine", "bmc3", queue])
+    tally.check(status == 1 and said.startswith(told + b"Traceback "), f"-v says {said}")
+    status, _, said = harness.run([sys.executable, "-c", DEFECT, str(TOP / "lib"), "-q", "--engine", "bmc3", "--each", queue])
+    tally.wants("--each", (1, told), (status, said))
+
+
 def main():
     tally = harness.Tally()
+    defects(tally)
     queue = str(TOP / "examples" / "queue.v")
     tally.wants("-q", (10, b"a bad state at step 4: b0\n", b""), harness.run([PROVE, "--engine", "steps", "-q", queue]))
     with open(queue, "rb") as given:

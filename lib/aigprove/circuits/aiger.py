@@ -253,12 +253,9 @@ class Circuit:
         counts = self.header.counts[: 5 if self.header.is_old else 9]
         latches = zip(self.latches, self.nexts, self.resets)
         sets = [*map(len, self.justice), *itertools.chain(*self.justice), *self.fairness]
-        rows = [("aag", *counts), *zip(self.inputs),
-                *latches, *zip([*self.outputs, *self.bads, *self.constraints, *sets]), *self.gates]
-        lines = (" ".join(map(str, row)).encode() for row in rows)
-        names = (b"%s%d %s" % (letter.encode(), i, name)
-                 for (letter, i), name in self.names.items())
-        return b"".join(line + b"\n" for line in itertools.chain(lines, names))
+        lists = [*self.outputs, *self.bads, *self.constraints, *sets]
+        return text_form(counts, [*self.inputs, *latches, *lists, *self.gates]) \
+            + symbols(self.names.items())
 
     def name(self, letter: str, position: int) -> bytes:
         """The name of a signal, as bytes."""
@@ -266,13 +263,24 @@ class Circuit:
 
     def read_by(self, literal: int) -> set[int]:
         """The places of the latches that a literal reads in the same step."""
-        gates, left, seen = {gate: operands for gate,
-                             *operands in self.gates}, [literal & ~1], set()
+        gates, left, seen = {gate: operands
+                             for gate, *operands in self.gates}, [literal & ~1], set()
         while left:
             if (it := left.pop()) not in seen:
                 seen.add(it)
                 left += [operand & ~1 for operand in gates.get(it, [])]
         return {i for i, latch in enumerate(self.latches) if latch in seen}
+
+
+def text_form(counts: Iterable[int], lines: Iterable[object]) -> bytes:
+    """Returns the text form of a file with these counts and lines; a row is one line."""
+    spelled = (" ".join(map(str, it)) if isinstance(it, tuple) else str(it) for it in lines)
+    return "".join(f"{line}\n" for line in ["aag " + " ".join(map(str, counts)), *spelled]).encode()
+
+
+def symbols(names: Iterable[tuple[tuple[str, int], bytes]]) -> bytes:
+    """Returns the lines of names."""
+    return b"".join(b"%s%d %s\n" % (letter.encode(), i, name) for (letter, i), name in names)
 
 
 def differences(numbers: Iterable[int]) -> bytes:

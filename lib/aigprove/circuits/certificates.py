@@ -5,7 +5,7 @@ from __future__ import annotations
 
 from collections.abc import Callable, Iterable, Iterator, Mapping
 
-from aigprove.circuits.aiger import Circuit
+from aigprove.circuits.aiger import Circuit, symbols, text_form
 from aigprove.circuits.gates import Gates, literals_of
 from aigprove.questions.conditions import STANDS
 
@@ -75,30 +75,26 @@ class WitnessCircuit:
             self.bads.append(self.gates.all(right) ^ 1)
             before, state = frame.kept, frame.state
 
-    def rows(self) -> Iterator[str]:
+    def rows(self) -> Iterator[tuple[int, int, int]]:
         """The lines of the latches: those of the file, and each frame, which gets what the one
         before has."""
         for latch, next, reset in zip(self.state, self.circuit.nexts, self.circuit.resets):
-            yield f"{latch} {self.literal(next)} {reset if reset < 2 else latch}"
+            yield latch, self.literal(next), reset if reset < 2 else latch
         before = [1, *self.state, *self.inputs]
         for frame in self.frames:
-            yield from (f"{latch} {next} 0" for latch, next in zip(frame.literals(), before))
+            yield from ((latch, next, 0) for latch, next in zip(frame.literals(), before))
             before = frame.literals()
 
     def text(self) -> bytes:
         """Its text, with the file's names, but for those that would say that its leaves stand for
         others."""
         rows, bad = list(self.rows()), self.gates.any(self.bads)
-        constraints = list(map(self.literal, self.circuit.constraints))
-        gates = [" ".join(map(str, row)) for row in self.gates.rows]
-        count = len(self.inputs) + len(rows) + len(gates)
-        header = f"aag {count} {len(self.inputs)} {len(rows)} 0 {len(gates)} 1 {len(constraints)}"
+        constraints, gates = list(map(self.literal, self.circuit.constraints)), self.gates.rows
+        counts = [self.gates.next // 2 - 1, len(self.inputs), len(rows), 0, len(gates), 1,
+                  len(constraints)]
         kept = (it for it in self.circuit.names.items()
                 if it[0][0] in "il" and not it[1].startswith(STANDS))
-        names = (b"%s%d %s" % (letter.encode(), i, name) for (letter, i), name in kept)
-        lines = [str(line).encode()
-                 for line in [header, *self.inputs, *rows, bad, *constraints, *gates]]
-        return b"".join(line + b"\n" for line in [*lines, *names])
+        return text_form(counts, [*self.inputs, *rows, bad, *constraints, *gates]) + symbols(kept)
 
 
 def by_invariant(circuit: Circuit, given: Circuit) -> bytes:

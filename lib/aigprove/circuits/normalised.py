@@ -8,15 +8,11 @@ without latches gets one that is spare. Inputs and latches are named by their pl
 names."""
 from __future__ import annotations
 
-from collections.abc import Mapping, Sequence
+from collections.abc import Sequence
 
-from aigprove.circuits.aiger import Circuit, decoded
+from aigprove.circuits.abc_output import BEGAN, BROKEN, SPARE, Named, excluded_by
+from aigprove.circuits.aiger import Circuit, decoded, text_form
 from aigprove.circuits.gates import Gates, binary, literals_of
-from aigprove.circuits.witness import Named
-
-BEGAN, BROKEN, SPARE = "began", "broken", "spare"
-# The values of these latches from step 1 on, in a run that meets the constraints.
-FIXED = {BEGAN: "1", BROKEN: "0", SPARE: "0"}
 
 
 class NormalisedModel:
@@ -59,8 +55,8 @@ class NormalisedModel:
 
     def binary(self) -> bytes:
         """Its binary form."""
-        names = [f"{letter}{i} {name}\n" for letter,
-                 own in [("i", self.inputs), ("l", self.latches)] for i, name in enumerate(own)]
+        names = [f"{letter}{i} {name}\n" for letter, own in [
+            ("i", self.inputs), ("l", self.latches)] for i, name in enumerate(own)]
         return binary(len(self.inputs), self.nexts, self.bads, self.gates) + "".join(names).encode()
 
     def run(self, text: str) -> tuple[str, list[str]]:
@@ -94,32 +90,9 @@ class NormalisedModel:
             return None
         bad = gates.any(map(gates.all, excluded))
         if self.opened:
-            bad = gates.both(bad, gates.all(latch ^ (reset == 0) for latch,
-                                            reset in zip(latches, resets) if reset < 2) ^ 1)
-        count = len(gates.rows)
-        header = f"aag {inputs + len(latches) + count} {inputs} {len(latches)} 0 {count} 1"
-        states = [f"{latch} {latch} {reset if reset < 2 else latch}"
+            bad = gates.both(bad, gates.all(
+                latch ^ (reset == 0) for latch, reset in zip(latches, resets) if reset < 2) ^ 1)
+        states = [(latch, latch, reset if reset < 2 else latch)
                   for latch, reset in zip(latches, resets)]
-        lines = [header, *range(2, latches.start, 2),
-                 *states, bad, *(" ".join(map(str, row)) for row in gates.rows)]
-        return "".join(f"{line}\n" for line in lines).encode()
-
-
-def excluded_by(pla: str, places: Mapping[str, int]) -> list[list[int]] | None:
-    """The cubes of an invariant in PLA form, as literals, by those of the latches, where the
-    further latches have their fixed values. None where it has no such form, or a name that is none
-    of these."""
-    names, excluded = None, []
-    for words in filter(None, map(str.split, pla.splitlines())):
-        if words[0] == ".ilb":
-            # A name may have spaces.
-            names = list(places) if words[1:] == " ".join(places).split() else words[1:]
-        elif words[0][0] in "01-":
-            if names is None or len(words[0]) != len(names):
-                return None
-            cube = [(name, bit) for name, bit in zip(names, words[0]) if bit != "-"]
-            if all(FIXED.get(name, bit) == bit for name, bit in cube):
-                excluded.append([(name, bit) for name, bit in cube if name not in FIXED])
-    if names is None or any(name not in places for cube in excluded for name, _ in cube):
-        return None
-    return [[places[name] ^ (bit == "1") for name, bit in cube] for cube in excluded]
+        counts = [gates.next // 2 - 1, inputs, len(latches), 0, len(gates.rows), 1]
+        return text_form(counts, [*range(2, latches.start, 2), *states, bad, *gates.rows])

@@ -193,8 +193,8 @@ class Trees:
                 self.uses[module, node.name].append(use_of(node, above))
             if node.kind == "RANGE" and above[-1].kind == "IDENTIFIER":
                 self.selected.add((module, above[-1].name))
-            if node.kind == "CELL" and above[
-                    -1].kind == "CELLARRAY" and not ends_with_0(above[-1].children[0]):
+            if node.kind == "CELL" and above[-1].kind == "CELLARRAY" and not ends_with_0(
+                    above[-1].children[0]):
                 self.arrays.add((module, node.name[1:]))
 
     def check_net(self, module: str, name: str) -> None:
@@ -223,8 +223,8 @@ class Hierarchy:
     these places aren't declared."""
 
     def __init__(self, text: str, trees: Trees, places: set[tuple[str, str]]) -> None:
-        self.modules, self.trees, self.places = {name: Module(own) for name,
-                                                 own in modules_of(text).items()}, trees, places
+        self.modules, self.trees, self.places = {
+            name: Module(own) for name, own in modules_of(text).items()}, trees, places
 
     def found(self, kind: str, path: str) -> Iterator[tuple[str, str]]:
         """What a path down from a module may be: pairs of a module and the name there of a net, or
@@ -255,8 +255,8 @@ class Hierarchy:
         """Whether a net of a module is of one of its interfaces: yosys declares it later, when it
         knows the interface."""
         module, first = self.modules[kind], net.name.partition(".")[0]
-        return first in module.nets and "is_interface" in module.nets[
-            first].attributes or self.is_interface(module.cells.get(first))
+        return (first in module.nets and "is_interface" in module.nets[first].attributes
+                or self.is_interface(module.cells.get(first)))
 
     def is_interface(self, kind: str | None) -> bool:
         """Whether a module is an interface."""
@@ -327,8 +327,8 @@ class Names:
             self.declared[base][net.name] = "wire "
             return
         # A path may begin with the name of the module in which it stands.
-        own = name.partition(".")[
-            2] if name.startswith(f"{base}.") and not list(hierarchy.found(kind, name)) else name
+        own = name.partition(".")[2] if name.startswith(
+            f"{base}.") and not list(hierarchy.found(kind, name)) else name
         try:
             line = f"(* hierconn *) wire {hierarchy.signal(kind, own)}"
         except Fault as why:

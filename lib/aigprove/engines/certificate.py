@@ -1,24 +1,21 @@
 """Certificates, and invariants that ABC wrote: what aigcheck is asked about them."""
 from __future__ import annotations
 
-import re
 from collections.abc import Callable, Iterator, Mapping
 
 from aigprove.circuits import simulation
+from aigprove.circuits.abc_output import PLA
 from aigprove.circuits.aiger import Circuit, Fault
 from aigprove.engines.job import Job
 from aigprove.output.signals import Signals
 from aigprove.processes.background import BackgroundCall
 from aigprove.processes.sealed import Sealed
 from aigprove.questions import conditions
-from aigprove.questions.checker import MISFIT, Query
+from aigprove.questions.checker import Query
 from aigprove.questions.solver import Solver, true_of
 
-# How an invariant that ABC wrote is told, and how many words of a state are printed.
-PLA, SHOWN = re.compile(rb"^\.ilb ", re.M), 20
-# How aigedit says that a certificate doesn't begin with the file's leaves, or that a reset is no
-# constant and not the latch itself.
-NO_JOINT = (MISFIT, "aigedit: other file: bad literal in latches")
+# How many words of a state are printed.
+SHOWN = 20
 Proofs = dict[str, Sealed]
 
 
@@ -33,8 +30,9 @@ class Certificate:
 
     def run(self) -> None:
         """Has the certificate checked, by proofs about the file and it, and hands it in."""
-        if PLA.search(self.certificate.data()):
-            self.certificate = self.of_invariant()
+        text = self.certificate.data().decode("utf-8", "surrogateescape")
+        if PLA.search(text):
+            self.certificate = self.of_invariant(text)
         with self.job.answering():
             joint = self.joint()
             proofs = self.joined(joint) if joint else self.simulated()
@@ -49,12 +47,8 @@ class Certificate:
         resets that are functions, but may simulate the file still."""
         if self.source.can_be_simulated and conditions.is_named(self.certificate):
             return None
-        try:
-            return self.checker.made("join", self.source.asked, self.certificate)
-        except Fault as why:
-            if not (self.source.can_be_simulated and str(why).startswith(NO_JOINT)):
-                raise
-            return None
+        is_needed = not self.source.can_be_simulated
+        return self.checker.joint(self.source.asked, self.certificate, is_needed)
 
     def asked(self, questions: Mapping[str, Query], file: Sealed) -> tuple[Proofs, Proofs]:
         """Returns proofs for questions by their names, and the solutions of those that have some.
@@ -108,10 +102,9 @@ class Certificate:
             _, solution = self.solver.ask(conditions.questions()[name], text)
             yield broken(circuit, name, solution)
 
-    def of_invariant(self) -> Sealed:
+    def of_invariant(self, text: str) -> Sealed:
         """Returns the certificate of an invariant of the file."""
         model = self.job.problem.normalised
-        text = self.certificate.data().decode("utf-8", "surrogateescape")
         made = model.certificate(text, model.of_abc())
         if made is None:
             raise Fault("the invariant names other latches than the file's")

@@ -1,7 +1,7 @@
 """What somebody else found, and the command line gives: a run, or a certificate."""
 from __future__ import annotations
 
-from aigprove.circuits import witness
+from aigprove.circuits.abc_output import of_abc
 from aigprove.circuits.aiger import Fault
 from aigprove.engines.job import Job
 from aigprove.processes.sealed import Sealed
@@ -19,7 +19,7 @@ class GivenRun:
         if data.startswith((b"1\nb", b"c")):
             self.job.hand_in_run(data)
             return
-        run = witness.of_abc(data.decode("utf-8", "replace"), self.job.problem.circuit)
+        run = of_abc(data.decode("utf-8", "replace"), self.job.problem.circuit)
         trace = self.job.reached(*run) if run else None
         if trace is None:
             raise Fault("WITNESS is neither a witness nor a counterexample of ABC that reaches a "

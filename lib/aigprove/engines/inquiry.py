@@ -7,14 +7,14 @@ from aigprove.engines.board import Board
 from aigprove.engines.clock import Clock
 from aigprove.engines.job import Job
 from aigprove.engines.portfolio import Portfolio, engines_of
-from aigprove.engines.problem import Problem, header_of
+from aigprove.engines.problem import Problem
 from aigprove.options.options import Options
 from aigprove.output.evidence import Evidence
 from aigprove.output.messages import say, show_progress
 from aigprove.output.printer import Printer
 from aigprove.processes.scheduler import Scope
 from aigprove.questions.assumptions import Assumptions
-from aigprove.questions.checker import Checker
+from aigprove.questions.checker import Checker, header_of
 from aigprove.questions.endless import Endless
 from aigprove.questions.justice import Justice
 from aigprove.questions.target import Target

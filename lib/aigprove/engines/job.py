@@ -4,8 +4,8 @@ from __future__ import annotations
 import contextlib
 from collections.abc import Sequence
 
-from aigprove.circuits.aiger import Fault, Lines
-from aigprove.circuits.witness import Witness, read
+from aigprove.circuits.aiger import Fault
+from aigprove.circuits.witness import Witness, read_for
 from aigprove.engines.answers import Certified, Induction, RunFound, StepShown
 from aigprove.engines.board import Board
 from aigprove.engines.problem import Problem
@@ -64,8 +64,7 @@ class Job:
 
     def hand_in_run(self, data: bytes) -> None:
         """Has aigcheck check a run to a bad state, and hands it in."""
-        header = self.problem.circuit.header
-        trace = read(Lines(data, "WITNESS"), header.latches, header.inputs)
+        trace = read_for(data, self.problem.circuit.header)
         with self.answering():
             self.checker.check(self.problem.claimed(trace))
             others = self.source.others(self.problem.circuit, trace)

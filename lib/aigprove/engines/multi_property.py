@@ -3,9 +3,9 @@
 One run of pdr finds runs to those that are reached, and one invariant for all others."""
 from __future__ import annotations
 
-import re
 from collections.abc import Iterable
 
+from aigprove.circuits.abc_output import parted
 from aigprove.circuits.aiger import Circuit
 from aigprove.circuits.normalised import NormalisedModel
 from aigprove.engines.abc import ask_abc, path_of_abc
@@ -17,7 +17,6 @@ from aigprove.processes.sealed import Sealed
 # properties, up to so many steps.
 PDR = "pdr -a -x -d -I inv.pla -H {each}"
 BMC = "bmc3 -a -x -F {steps} -T {seconds}"
-FOUND = re.compile(r"^# CEX for output ([0-9]{1,9})$", re.MULTILINE)
 # The initial state and the inputs of each step, by the places of properties.
 Runs = dict[int, tuple[str, list[str]]]
 
@@ -38,16 +37,6 @@ class MultiProperty:
         made = model.certificate(invariant) if invariant else None
         runs = {place: model.run(text) for place, text in parted(found)}
         return runs, Sealed(made) if made else None
-
-
-def parted(found: str) -> list[tuple[int, str]]:
-    """Returns the place of the output and the text of each counterexample.
-
-    If none has a place there is one of the first output."""
-    first, *others = FOUND.split(found)
-    if not others:
-        return [(0, first)] if "@0=" in first else []
-    return [(int(place), text) for place, text in zip(others[::2], others[1::2])]
 
 
 class Cones:

@@ -6,19 +6,14 @@ import re
 from collections.abc import Sequence
 
 from aigprove.circuits import witness
-from aigprove.circuits.aiger import Circuit, Fault, Header, Lines
+from aigprove.circuits.aiger import Circuit, Fault
 from aigprove.circuits.normalised import NormalisedModel
 from aigprove.circuits.simulation import SIMULATED
 from aigprove.circuits.witness import Witness
 from aigprove.options.options import Options
 from aigprove.processes.sealed import Sealed
-from aigprove.questions.checker import Checker, Claim
+from aigprove.questions.checker import Checker, Claim, header_of
 from aigprove.questions.target import Target
-
-
-def header_of(file: Sealed) -> Header:
-    """Returns the header of a file."""
-    return Header(Lines(file.line(), "FILE"))
 
 
 class Problem:

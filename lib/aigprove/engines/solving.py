@@ -7,8 +7,7 @@ import time
 from collections.abc import Iterator
 from typing import TYPE_CHECKING
 
-from aigprove.circuits.aiger import Lines
-from aigprove.circuits.witness import read
+from aigprove.circuits.witness import read_for
 from aigprove.engines.job import Job
 from aigprove.processes.sealed import Sealed
 from aigprove.questions.checker import PAIRS, Claim, Question
@@ -177,8 +176,7 @@ class Bounded(Asking):
 
     def last(self, run: bytes) -> int:
         """Returns the last step of a run."""
-        header = self.job.problem.circuit.header
-        return len(read(Lines(run, "WITNESS"), header.latches, header.inputs).steps) - 1
+        return len(read_for(run, self.job.problem.circuit.header).steps) - 1
 
 
 class Windows(Asking):

@@ -13,7 +13,7 @@ import sys
 from collections.abc import Iterable, Iterator, Mapping, Sequence
 from typing import Any, Protocol
 
-from aigprove.circuits.aiger import Circuit, Fault, Lines
+from aigprove.circuits.aiger import Circuit, Fault, Lines, text_form
 from aigprove.circuits.gates import Gates
 from aigprove.equality.classes import Classes, Different
 from aigprove.equality.implied import Pairs
@@ -42,8 +42,8 @@ class Guess(Protocol):
         """Returns pairs of nodes that a step keeps equal."""
 
 
-def partners(circuit: Circuit, count: int, others: int, alike: Mapping[int, int]) -> dict[
-        int, int | None]:
+def partners(circuit: Circuit, count: int, others: int,
+             alike: Mapping[int, int]) -> dict[int, int | None]:
     """Of two files with so many latches: the latch of the second, by its place, that is to be a
     latch of the first: one that starts like it, or has the same name, or else is at the same
     place."""
@@ -93,8 +93,8 @@ class States:
         classes, size, states, proved = self.classes, self.classes.size(), self.classes.pairs(), 0
         nodes, known = self.nodes.merged(classes.merged(self.nodes.leaves(), 1))
         inner, limits = self.inner(nodes), [] if self.is_hard else limits_for(len(nodes.gates.rows))
-        nexts = [(nodes.next(left), nodes.next(right)) for left,
-                 right in states] + [(bad, 0) for bad in nodes.bads]
+        nexts = [(nodes.next(left), nodes.next(right))
+                 for left, right in states] + [(bad, 0) for bad in nodes.bads]
         while classes.size() == size:
             pairs, facts = inner.pairs(), [(literal, 1) for literal in nodes.constraints]
             found = self.solver.differing(nodes.gates, facts + pairs[:proved],
@@ -241,13 +241,10 @@ def certificate(nodes: Nodes, pairs: list[Pair]) -> bytes:
     ways = [gates.both(*way)
             for left, right in pairs for way in [(left, right ^ 1), (left ^ 1, right)]]
     bads = [bad for bad in reversed(ways) if bad] or [0]
-    states = [f"{latch} {latch} {reset if reset < 2 else latch}"
+    states = [(latch, latch, reset if reset < 2 else latch)
               for latch, reset in zip(nodes.latches, nodes.resets)]
     counts = [(gates.next >> 1) - 1, len(nodes.inputs), len(states), 0, len(gates.rows), len(bads)]
-    header = f"aag {' '.join(map(str, counts))}"
-    lines = [header, *nodes.inputs,
-             *states, *bads, *(" ".join(map(str, row)) for row in gates.rows)]
-    return "".join(f"{line}\n" for line in lines).encode()
+    return text_form(counts, [*nodes.inputs, *states, *bads, *gates.rows])
 
 
 class Guesses:

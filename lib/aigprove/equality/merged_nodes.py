@@ -86,7 +86,7 @@ class MergedNodes:
         may be what others are."""
         known = [0, every] + [0] * (self.nodes.all().stop - 2)
         for it, below, same in self.rows:
-            value = known[same] if same is not None else known[
-                below[0]] & known[below[1]] if below else values[(it >> 1) - 1]
+            value = (known[same] if same is not None else known[below[0]] & known[below[1]]
+                     if below else values[(it >> 1) - 1])
             known[it], known[it + 1] = value, value ^ every
         return [known[it] for it in self.nodes.leaves()]

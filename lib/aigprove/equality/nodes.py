@@ -61,8 +61,9 @@ class Nodes:
 
     def next(self, literal: int) -> int:
         """The literal of what a latch, or 0, is in the next step."""
-        return literal if literal < 2 else self.nexts[
-            (literal - self.latches.start) // 2] ^ literal & 1
+        if literal < 2:
+            return literal
+        return self.nexts[(literal - self.latches.start) // 2] ^ literal & 1
 
     def following(self, known: Known) -> list[int]:
         """The next values of the latches."""

@@ -11,9 +11,8 @@ import stat
 from collections.abc import Iterable, Iterator, Sequence
 from dataclasses import dataclass, field
 
-from aigprove.circuits import witness
-from aigprove.circuits.aiger import Fault, Header, Lines
-from aigprove.circuits.witness import Witness
+from aigprove.circuits.aiger import Fault
+from aigprove.circuits.witness import Witness, read_for
 from aigprove.engines.separate import SeparateProperties
 from aigprove.output.evidence import ABOVE
 from aigprove.output.folders import PART, EvidenceFolder
@@ -23,7 +22,7 @@ from aigprove.processes.files import NODE
 from aigprove.processes.sealed import Sealed
 from aigprove.questions import endless
 from aigprove.questions.bad_states import BadStates
-from aigprove.questions.checker import Checker, Claim
+from aigprove.questions.checker import Checker, Claim, header_of
 from aigprove.questions.justice import Justices
 
 # The commands of aigcheck whose lines say something of one file.
@@ -242,9 +241,7 @@ class Gathered:
 
 def trace_of(claim: Claim) -> Witness:
     """Returns the witness of a claim about a run."""
-    header = Header(Lines(claim.files["FILE"].line(), "FILE"))
-    data = claim.files[claim.words[2]].data()
-    return witness.read(Lines(data, "WITNESS"), header.latches, header.inputs)
+    return read_for(claim.files[claim.words[2]].data(), header_of(claim.files["FILE"]))
 
 
 def conclude(answer: PropertyAnswer, found: Iterable[Found]) -> None:

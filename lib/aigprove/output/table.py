@@ -13,7 +13,6 @@ from aigprove.circuits.witness import Witness
 from aigprove.designs.front_ends import COVER, LIVE
 from aigprove.engines.answers import FAILED, OPEN, SAFE, UNSAFE
 from aigprove.engines.portfolio import TICK
-from aigprove.engines.problem import header_of
 from aigprove.engines.separate import SeparateProperties
 from aigprove.engines.shared import SharedProperties
 from aigprove.options.options import Options
@@ -27,7 +26,7 @@ from aigprove.output.signals import Signals
 from aigprove.processes.files import write
 from aigprove.questions.assumptions import SECONDS, Assumptions
 from aigprove.questions.bad_states import BadStates, Covers
-from aigprove.questions.checker import Checker
+from aigprove.questions.checker import Checker, header_of
 from aigprove.questions.justice import Justices, lives
 from aigprove.questions.properties import FileAbove
 from aigprove.questions.solver import Solver

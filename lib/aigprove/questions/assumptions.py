@@ -6,10 +6,10 @@ from __future__ import annotations
 import time
 from typing import TYPE_CHECKING
 
-from aigprove.circuits.aiger import Circuit, Header, Lines
-from aigprove.circuits.witness import read
+from aigprove.circuits.aiger import Circuit
+from aigprove.circuits.witness import read_for
 from aigprove.processes.sealed import Sealed
-from aigprove.questions.checker import Checker, Claim, Question
+from aigprove.questions.checker import Checker, Claim, Question, header_of
 from aigprove.questions.solver import Solver
 from aigprove.questions.target import CLAIMS, Target
 
@@ -80,8 +80,7 @@ class Assumptions:
         can_be_met, given = solver.ask(question, self.possible.asked)
         if can_be_met:
             data = self.checker.witness(self.possible.asked, question, given)
-            header = Header(Lines(self.possible.asked.line(), "FILE"))
-            trace = read(Lines(data, "WITNESS"), header.latches, header.inputs)
+            trace = read_for(data, header_of(self.possible.asked))
             claim = self.possible.run(trace, Sealed(data))
         else:
             claim = self.possible.unsolvable(question, given)

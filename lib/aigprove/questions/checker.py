@@ -5,12 +5,13 @@ read-only copy of the file. Nothing else in the package says what a machine does
 from __future__ import annotations
 
 import dataclasses
+import re
 import tempfile
 from collections.abc import Mapping, Sequence
 from dataclasses import dataclass
 from typing import IO, Protocol
 
-from aigprove.circuits.aiger import LIMIT, Circuit, Fault, Lines
+from aigprove.circuits.aiger import LIMIT, Circuit, Fault, Header, Lines
 from aigprove.output.messages import ending
 from aigprove.processes.scheduler import Task
 from aigprove.processes.sealed import Sealed, Word
@@ -19,8 +20,15 @@ from aigprove.processes.sealed import Sealed, Word
 STEP = "proof step does not follow"
 # How many variables windows without repeated states may have to tell states apart.
 PAIRS = 1 << 22
-# How aigedit says that two files have other signals.
-MISFIT = "aigedit: files do not fit: "
+# How aigedit says that two files have other signals, and that a reset is no constant and not the
+# latch itself; and where aigcheck says that the loop of a lasso is.
+MISFIT, RESETS = "aigedit: files do not fit: ", "aigedit: other file: bad literal in latches"
+LOOP = re.compile("from step ([0-9]+) to ([0-9]+)")
+
+
+def header_of(file: Sealed) -> Header:
+    """Returns the header of a file."""
+    return Header(Lines(file.line(), "FILE"))
 
 
 @dataclass(frozen=True)
@@ -120,9 +128,25 @@ class Checker:
         """Returns what aigedit prints, sealed."""
         return self.printed(*self.aigedit, *words)
 
-    def line_of_run(self, file: Sealed, run: Sealed) -> str:
-        """Returns what aigcheck prints of a run."""
-        return self.printed(*self.aigcheck, "run", file, run).data().decode().rstrip("\n")
+    def lasso(self, file: Sealed, run: Sealed) -> tuple[str, tuple[int, int]]:
+        """Returns what aigcheck prints of a lasso, and the first and the last step of its loop."""
+        line = self.printed(*self.aigcheck, "run", file, run).data().decode().rstrip("\n")
+        found = LOOP.search(line)
+        if not found:
+            raise Fault(f"aigcheck printed {line!r}")
+        return line, (int(found[1]), int(found[2]))
+
+    def joint(self, file: Sealed, certificate: Sealed, is_needed: bool) -> Sealed | None:
+        """Returns a file beside a certificate that begins with the file's inputs and latches.
+
+        The result is None if the certificate doesn't, or has resets that are functions, unless it
+        `is_needed`."""
+        try:
+            return self.made("join", file, certificate)
+        except Fault as why:
+            if is_needed or not str(why).startswith((MISFIT, RESETS)):
+                raise
+            return None
 
     def circuit(self, file: Sealed, what: str) -> Circuit:
         """Returns what a file says that a program took, and that faults call so."""

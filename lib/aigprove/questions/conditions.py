@@ -69,8 +69,8 @@ def with_open_resets(circuit: Circuit, starts: bool) -> None:
 def leaves(circuit: Circuit) -> dict[int, tuple[str, int]]:
     """The places of the inputs and latches, by their literals."""
     lists = [("i", circuit.inputs), ("l", circuit.latches)]
-    return {literal: (letter, i) for letter,
-            literals in lists for i, literal in enumerate(literals)}
+    return {literal: (letter, i)
+            for letter, literals in lists for i, literal in enumerate(literals)}
 
 
 def name_shared(circuit: Circuit, file: Circuit, named: Circuit) -> None:

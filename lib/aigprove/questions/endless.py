@@ -6,11 +6,11 @@ from __future__ import annotations
 import time
 from typing import TYPE_CHECKING
 
-from aigprove.circuits.aiger import Header, Lines
-from aigprove.circuits.witness import read
+from aigprove.circuits.aiger import Header
+from aigprove.circuits.witness import read_for
 from aigprove.processes.sealed import Sealed
-from aigprove.questions.checker import PAIRS, Checker, Claim, Question
-from aigprove.questions.justice import Justice, loop_of, span
+from aigprove.questions.checker import PAIRS, Checker, Claim, Question, header_of
+from aigprove.questions.justice import Justice, span
 from aigprove.questions.solver import Solver
 
 if TYPE_CHECKING:
@@ -57,7 +57,7 @@ class Endless:
 
         What is found is checked."""
         has_lasso, given = solver.ask(question, self.made)
-        header = Header(Lines(self.made.line(), "FILE"))
+        header = header_of(self.made)
         if has_lasso:
             self.take_lasso(header, self.checker.witness(self.made, question, given))
             return
@@ -75,10 +75,9 @@ class Endless:
 
     def take_lasso(self, header: Header, data: bytes) -> None:
         """Takes the witness of a lasso, in whose line aigcheck says where its loop is."""
-        trace = read(Lines(data, "WITNESS"), header.latches, header.inputs)
+        trace = read_for(data, header)
         lasso = Sealed(trace.lasso(self.number, self.latches).text().encode())
-        line = self.checker.line_of_run(self.file, lasso)
-        self.loop = loop_of(line)
+        line, self.loop = self.checker.lasso(self.file, lasso)
         self.claim = Claim(line, ["run", NAME, "endless"], {NAME: self.file, "endless": lasso})
 
     def is_empty(self) -> bool:

@@ -6,7 +6,6 @@ fails."""
 from __future__ import annotations
 
 import functools
-import re
 from collections.abc import Iterable, Iterator, Mapping, Sequence
 from typing import TYPE_CHECKING
 
@@ -145,7 +144,7 @@ class Justice(Target):
 
     def confirm(self, trace: Witness) -> None:
         lasso = Sealed(self.of_file(trace).text().encode())
-        self.loop = loop_of(self.given.checker.line_of_run(self.given.file, lasso))
+        _, self.loop = self.given.checker.lasso(self.given.file, lasso)
 
     def found(self, signals: Signals, traces: Sequence[Witness]) -> str:
         """Returns the line that says where the loop of a lasso is, as aigcheck found."""
@@ -201,14 +200,6 @@ class Justice(Target):
         if not self.above:
             self.given.keep(evidence)
         evidence.makes(self.name, self.asked, self.command, self.file, str(self.number))
-
-
-def loop_of(line: str) -> tuple[int, int]:
-    """Returns the first and the last step of a lasso's loop, by the line that aigcheck prints."""
-    found = re.search("from step ([0-9]+) to ([0-9]+)", line)
-    if not found:
-        raise Fault(f"aigcheck printed {line!r}")
-    return int(found[1]), int(found[2])
 
 
 def span(begin: int, last: int) -> str:
