@@ -22,8 +22,8 @@ class Fault(Exception):
 
 
 def decimal(digits: bytes) -> int:
-    """The number that digits spell, however many zeros stand before it; ten digits are enough for
-    any that a file has."""
+    """Returns the number that digits spell, however many zeros stand before it; ten digits are
+    enough for any that a file has."""
     spelled = digits.lstrip(b"0")
     if len(spelled) > 10:
         raise Fault("a number has more than ten digits")
@@ -47,11 +47,11 @@ class Lines:
         self.data, self.place, self.what = data, 0, what
 
     def is_read(self) -> bool:
-        """Whether nothing is left."""
+        """Returns whether nothing is left."""
         return self.place == len(self.data)
 
     def line(self) -> bytes:
-        """The next line, without its line feed."""
+        """Returns the next line, without its line feed."""
         end = self.data.find(b"\n", self.place)
         if end < 0:
             raise Fault(f"{self.what} ends too early")
@@ -67,18 +67,18 @@ class Lines:
         self.place = len(self.data) - len(rest)
 
     def numbers(self, least: int, most: int) -> list[int]:
-        """A line of so many numbers."""
+        """Returns a line of so many numbers."""
         words = self.line().split(b" ")
         if not least <= len(words) <= most or not all(word.isdigit() for word in words):
             raise Fault(f"{self.what} has a bad line of numbers")
         return [decimal(word) for word in words]
 
     def number(self) -> int:
-        """A line of one number."""
+        """Returns a line of one number."""
         return self.numbers(1, 1)[0]
 
     def rows(self, count: int, width: int) -> list[list[int]]:
-        """So many lines of so many numbers each, which are read at once."""
+        """Returns so many lines of so many numbers each, which are read at once."""
         *lines, rest = self.data[self.place:].split(b"\n", count)
         words = b" ".join(lines).split(b" ") if lines else []
         if len(lines) < count or any(line.count(b" ") != width - 1
@@ -103,7 +103,7 @@ class Lines:
             count -= len(groups.translate(None, GOES_ON))
 
     def differences(self, count: int) -> list[int]:
-        """So many numbers in groups of seven bits, the lowest first."""
+        """Returns so many numbers in groups of seven bits, the lowest first."""
         found, number, shift = [], 0, 0
         for size, group in enumerate(self.data[self.place:] if count else b"", 1):
             number |= (group & 127) << shift
@@ -242,14 +242,14 @@ class Circuit:
         return made
 
     def signals(self) -> Iterator[tuple[str, int, int]]:
-        """The letter, the position and the literal of each signal."""
+        """Yields the letter, the position and the literal of each signal."""
         lists = [self.inputs, self.latches, self.outputs, self.bads, self.constraints]
         for letter, literals in zip(KINDS, lists):
             for position, literal in enumerate(literals):
                 yield letter, position, literal
 
     def text(self) -> bytes:
-        """Its text form, with its names, as bytes."""
+        """Returns its text form, with its names, as bytes."""
         counts = self.header.counts[: 5 if self.header.is_old else 9]
         latches = zip(self.latches, self.nexts, self.resets)
         sets = [*map(len, self.justice), *itertools.chain(*self.justice), *self.fairness]
@@ -258,11 +258,11 @@ class Circuit:
             + symbols(self.names.items())
 
     def name(self, letter: str, position: int) -> bytes:
-        """The name of a signal, as bytes."""
+        """Returns the name of a signal, as bytes."""
         return self.names.get((letter, position)) or f"{letter}{position}".encode()
 
     def read_by(self, literal: int) -> set[int]:
-        """The places of the latches that a literal reads in the same step."""
+        """Returns the places of the latches that a literal reads in the same step."""
         gates, left, seen = {gate: operands
                              for gate, *operands in self.gates}, [literal & ~1], set()
         while left:
@@ -284,8 +284,8 @@ def symbols(names: Iterable[tuple[tuple[str, int], bytes]]) -> bytes:
 
 
 def differences(numbers: Iterable[int]) -> bytes:
-    """Numbers as binary files spell them: groups of seven bits, the lowest first, each but the last
-    with the eighth bit set."""
+    """Returns numbers as binary files spell them: groups of seven bits, the lowest first, each but
+    the last with the eighth bit set."""
     groups = bytearray()
     for number in numbers:
         while number > 127:
@@ -296,7 +296,7 @@ def differences(numbers: Iterable[int]) -> bytes:
 
 
 def binary_gates(lines: Lines, count: int, first: int) -> list[Gate]:
-    """So many gates of the binary form from this literal on, by their differences."""
+    """Returns so many gates of the binary form from this literal on, by their differences."""
     numbers = lines.differences(2 * count)
     gates = [(gate, gate - one, gate - one - two)
              for gate, one, two in zip(itertools.count(first, 2), numbers[::2], numbers[1::2])]
@@ -306,8 +306,8 @@ def binary_gates(lines: Lines, count: int, first: int) -> list[Gate]:
 
 
 def names(lines: Lines) -> Names:
-    """The names behind the gates, by letter and position, up to the comment: a c without a digit
-    behind it."""
+    """Returns the names behind the gates, by letter and position, up to the comment: a c without a
+    digit behind it."""
     found = {}
     while not lines.is_read() and not COMMENT.match(lines.data, lines.place):
         symbol = re.fullmatch(rb"([ilobcjf])([0-9]+) (.*)", lines.line(), re.DOTALL)

@@ -19,7 +19,7 @@ class Frame:
         self.inputs = range(self.state.stop, self.state.stop + 2 * len(circuit.inputs), 2)
 
     def leaves(self, circuit: Circuit) -> dict[int, int]:
-        """The literals that stand for the circuit's inputs and latches."""
+        """Returns the literals that stand for the circuit's inputs and latches."""
         return dict([*zip(circuit.inputs, self.inputs), *zip(circuit.latches, self.state)])
 
     def literals(self) -> list[int]:
@@ -44,14 +44,14 @@ class WitnessCircuit:
         return literals_of(self.circuit, self.gates, leaves)
 
     def equal(self, left: int, right: int) -> int:
-        """The literal that is true where both are equal."""
+        """Returns the literal that is true where both are equal."""
         return self.gates.choice(left, right, right ^ 1)
 
     def implies(self, left: int, right: int) -> int:
         return self.gates.both(left, right ^ 1) ^ 1
 
     def starts(self, state: Iterable[int]) -> int:
-        """The literal that is true where the file's machine can start in a state."""
+        """Returns the literal that is true where the file's machine can start in a state."""
         return self.gates.all(literal ^ (reset == 0)
                               for literal, reset in zip(state, self.circuit.resets) if reset < 2)
 
@@ -76,8 +76,8 @@ class WitnessCircuit:
             before, state = frame.kept, frame.state
 
     def rows(self) -> Iterator[tuple[int, int, int]]:
-        """The lines of the latches: those of the file, and each frame, which gets what the one
-        before has."""
+        """Yields the lines of the latches: those of the file, and each frame, which gets what the
+        one before has."""
         for latch, next, reset in zip(self.state, self.circuit.nexts, self.circuit.resets):
             yield latch, self.literal(next), reset if reset < 2 else latch
         before = [1, *self.state, *self.inputs]
@@ -86,8 +86,8 @@ class WitnessCircuit:
             before = frame.literals()
 
     def text(self) -> bytes:
-        """Its text, with the file's names, but for those that would say that its leaves stand for
-        others."""
+        """Returns its text, with the file's names, but for those that would say that its leaves
+        stand for others."""
         rows, bad = list(self.rows()), self.gates.any(self.bads)
         constraints, gates = list(map(self.literal, self.circuit.constraints)), self.gates.rows
         counts = [self.gates.next // 2 - 1, len(self.inputs), len(rows), 0, len(gates), 1,
@@ -98,14 +98,14 @@ class WitnessCircuit:
 
 
 def by_invariant(circuit: Circuit, given: Circuit) -> bytes:
-    """The certificate of an inductive machine whose latches are the circuit's."""
+    """Returns the certificate of an inductive machine whose latches are the circuit's."""
     made = WitnessCircuit(circuit)
     made.exclude(given)
     return made.text()
 
 
 def by_window(circuit: Circuit, k: int) -> bytes:
-    """The certificate of windows of k + 2 steps: it keeps the last k states."""
+    """Returns the certificate of windows of k + 2 steps: it keeps the last k states."""
     made = WitnessCircuit(circuit, k)
     made.remember()
     return made.text()

@@ -15,7 +15,7 @@ class Gates:
         self.made: dict[tuple[int, int], int] = {}
 
     def both(self, left: int, right: int) -> int:
-        """The literal of an and."""
+        """Returns the literal of an and."""
         if left < right:
             left, right = right, left
         if right == 0 or left == right ^ 1:
@@ -26,7 +26,7 @@ class Gates:
         return self.add(left, right) if made is None else made
 
     def add(self, left: int, right: int) -> int:
-        """The literal of a new and of two literals, the larger first."""
+        """Returns the literal of a new and of two literals, the larger first."""
         made = self.made[left, right] = self.next
         self.rows.append((made, left, right))
         self.next += 2
@@ -37,11 +37,11 @@ class Gates:
         self.made[max(left, right), min(left, right)] = literal
 
     def any(self, literals: Iterable[int]) -> int:
-        """The literal of an or, as a tree."""
+        """Returns the literal of an or, as a tree."""
         return self.all([literal ^ 1 for literal in literals]) ^ 1
 
     def all(self, literals: Iterable[int]) -> int:
-        """The literal of an and of many, as a tree."""
+        """Returns the literal of an and of many, as a tree."""
         literals = list(literals) or [1]
         while len(literals) > 1:
             pairs = [self.both(left, right) for left, right in zip(literals[::2], literals[1::2])]
@@ -53,7 +53,8 @@ class Gates:
 
 
 def binary(inputs: int, nexts: Sequence[int], outputs: Sequence[int], gates: Gates) -> bytes:
-    """The binary form of a machine of so many inputs, whose latches are 0 at first, by literals."""
+    """Returns the binary form of a machine of so many inputs, whose latches are 0 at first, by
+    literals."""
     count = len(gates.rows)
     header = f"aig {inputs + len(nexts) + count} {inputs} {len(nexts)} {len(outputs)} {count}"
     lines = "".join(f"{line}\n" for line in [header, *nexts, *outputs])
@@ -62,7 +63,8 @@ def binary(inputs: int, nexts: Sequence[int], outputs: Sequence[int], gates: Gat
 
 
 def literals_of(circuit: Circuit, gates: Gates, leaves: Mapping[int, int]) -> Callable[[int], int]:
-    """The literals that stand for those of a circuit, whose leaves stand for these: a function."""
+    """Returns the literals that stand for those of a circuit, whose leaves stand for these: a
+    function."""
     known = {0: 0, **leaves}
 
     def literal(of: int) -> int:

@@ -16,15 +16,15 @@ AT_ONCE, SMALL = 1 << 11, 1 << 18
 
 
 def places_of(trace: Witness, opened: Iterable[int]) -> list[Place]:
-    """The places of the values of a run that may be left out: 0 and one of these latches at first,
-    or t + 1 and an input of step t."""
+    """Returns the places of the values of a run that may be left out: 0 and one of these latches at
+    first, or t + 1 and an input of step t."""
     inputs = [(t, i) for i in range(len(trace.steps[0])) for t in range(1, len(trace.steps) + 1)]
     rows = [trace.start, *trace.steps]
     return [(t, i) for t, i in [*((0, i) for i in opened), *inputs] if rows[t][i] != "x"]
 
 
 def without(trace: Witness, places: Iterable[Place]) -> Witness:
-    """A run without the values at these places."""
+    """Returns a run without the values at these places."""
     rows = [list(row) for row in [trace.start, *trace.steps]]
     for t, i in places:
         rows[t][i] = "x"
@@ -34,15 +34,15 @@ def without(trace: Witness, places: Iterable[Place]) -> Witness:
 
 def simulated(circuit: Circuit, trace: Witness,
               opened: Iterable[int], bads: Sequence[int], seconds: float) -> Witness:
-    """A run without as many values as may be left out, as far as it is found in so many seconds of
-    work, by simulations of many trials at once: where more is left out less is known, so what can't
-    be left out alone never can, and of several in a row the first few can."""
+    """Returns a run without as many values as may be left out, as far as it is found in so many
+    seconds of work, by simulations of many trials at once: where more is left out less is known, so
+    what can't be left out alone never can, and of several in a row the first few can."""
     until, places = time.thread_time() + seconds, places_of(trace, opened)
     gone: list[Place] = []
 
     def shown(left: Sequence[Place], trials_of: Callable[[int, int], int]) -> int:
-        """The trials that hold, of as many as there are places left, each without what is gone:
-        those of a place are these."""
+        """Returns the trials that hold, of as many as there are places left, each without what is
+        gone: those of a place are these."""
         every = (1 << len(left)) - 1
         left_out = {**dict.fromkeys(gone, every),
                     **{place: trials_of(every, i) for i, place in enumerate(left)}}
@@ -62,9 +62,9 @@ def simulated(circuit: Circuit, trace: Witness,
 
 def minimal(trace: Witness,
             opened: Iterable[int], holds: Callable[[Witness], bool], seconds: float) -> Witness:
-    """A run with x in the place of as many values of these latches at first, and of inputs, as may
-    be left out: by halves, as long as the run `holds`, where no single one more may be left out,
-    unless the seconds are over before that."""
+    """Returns a run with x in the place of as many values of these latches at first, and of inputs,
+    as may be left out: by halves, as long as the run `holds`, where no single one more may be left
+    out, unless the seconds are over before that."""
     parts, until = [places_of(trace, opened)], time.monotonic() + seconds
     while parts and time.monotonic() < until:
         part = parts.pop()

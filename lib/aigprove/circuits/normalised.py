@@ -44,7 +44,7 @@ class NormalisedModel:
         self.nexts = self.nexts or [0]
 
     def leaves(self) -> dict[int, int]:
-        """The literals that stand for the circuit's inputs and latches."""
+        """Returns the literals that stand for the circuit's inputs and latches."""
         leaves = {literal: 2 * (i + 1) for i, literal in enumerate(self.circuit.inputs)}
         free = {i: 2 * (len(self.circuit.inputs) + 1 + n) for n, i in enumerate(self.opened)}
         for i, (literal, reset) in enumerate(zip(self.circuit.latches, self.circuit.resets)):
@@ -54,14 +54,14 @@ class NormalisedModel:
         return leaves
 
     def binary(self) -> bytes:
-        """Its binary form."""
+        """Returns its binary form."""
         names = [f"{letter}{i} {name}\n" for letter, own in [
             ("i", self.inputs), ("l", self.latches)] for i, name in enumerate(own)]
         return binary(len(self.inputs), self.nexts, self.bads, self.gates) + "".join(names).encode()
 
     def run(self, text: str) -> tuple[str, list[str]]:
-        """The first state and the inputs of each step in a counterexample of the plain machine, as
-        `write_cex -n` of ABC writes it."""
+        """Returns the first state and the inputs of each step in a counterexample of the plain
+        machine, as `write_cex -n` of ABC writes it."""
         named = Named(text)
         resets = enumerate(self.circuit.resets)
         start = "".join(str(reset) if reset < 2 else named.values.get((0, f"r{i}"), "0")
@@ -69,16 +69,16 @@ class NormalisedModel:
         return start, named.rows(self.inputs[: len(self.circuit.inputs)])
 
     def of_abc(self) -> list[str]:
-        """The names of the latches as ABC has them of the circuit's own file: those that the file
-        gives, or places."""
+        """Returns the names of the latches as ABC has them of the circuit's own file: those that
+        the file gives, or places."""
         width = len(str(max(len(self.circuit.latches) - 1, 0)))
         named = (self.circuit.names.get(("l", i)) for i in range(len(self.circuit.latches)))
         return [decoded(name) if name else f"lo{i:0{width}}" for i, name in enumerate(named)]
 
     def certificate(self, pla: str, names: Sequence[str] | None = None) -> bytes | None:
-        """The text of a certificate: inputs and latches as the circuit has them, and one bad state
-        property, the states that an invariant of the plain machine excludes, or one whose latches
-        have these names. None where that isn't one of the machine.
+        """Returns the text of a certificate: inputs and latches as the circuit has them, and one
+        bad state property, the states that an invariant of the plain machine excludes, or one whose
+        latches have these names. None where that isn't one of the machine.
 
         Where a latch is open at first, the first states aren't among them."""
         inputs, resets = len(self.circuit.inputs), self.circuit.resets

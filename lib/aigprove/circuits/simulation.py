@@ -30,17 +30,17 @@ class Values:
         return self.places[literal & ~1] ^ literal & 1
 
     def true(self, literal: int) -> int:
-        """The trials in which a literal is known to be true."""
+        """Returns the trials in which a literal is known to be true."""
         return self.known[self.place(literal)]
 
     def __getitem__(self, literal: int) -> str:
-        """The value of a literal, where there is one trial."""
+        """Returns the value of a literal, where there is one trial."""
         place = self.place(literal)
         return "1" if self.known[place] else "0" if self.known[place ^ 1] else "x"
 
 
 def sides(t: int, row: Sequence[str], left_out: LeftOut | None, every: int) -> Iterator[int]:
-    """What is known of the values of a row and of their inverses, one after the other."""
+    """Yields what is known of the values of a row and of their inverses, one after the other."""
     for i, value in enumerate(row):
         own = every & ~left_out.get((t, i), 0) if left_out else every
         yield own if value == "1" else 0
@@ -49,7 +49,7 @@ def sides(t: int, row: Sequence[str], left_out: LeftOut | None, every: int) -> I
 
 def run(circuit: Circuit, start: Sequence[str], steps: Iterable[Sequence[str]],
         left_out: LeftOut | None = None, every: int = 1) -> Iterator[Values]:
-    """The values in each step, until the next is asked for.
+    """Yields the values in each step, until the next is asked for.
 
     Some trials are without the value at a place: 0 and a latch, or t + 1 and an input of step t."""
     values = Values(circuit, every)
@@ -69,7 +69,7 @@ def run(circuit: Circuit, start: Sequence[str], steps: Iterable[Sequence[str]],
 
 def trials(circuit: Circuit, trace: Witness,
            bads: Iterable[int], left_out: LeftOut, every: int) -> int:
-    """The trials of a run that meet every constraint and end where these bad states are."""
+    """Returns the trials of a run that meet every constraint and end where these bad states are."""
     shown = every
     for values in run(circuit, trace.start, trace.steps, left_out, every):
         for literal in circuit.constraints:

@@ -57,7 +57,7 @@ class File(NamedTuple):
 
 
 def kind_of(path: str, data: bytes) -> str | None:
-    """The end of a file's name that says what reads it, or None of one in AIGER form.
+    """Returns the end of a file's name that says what reads it, or None of one in AIGER form.
 
     What standard input has is seen by how it begins."""
     if path == STANDARD_INPUT:

@@ -58,14 +58,14 @@ class Shape(NamedTuple):
 
     @classmethod
     def of(cls, words: str) -> Shape:
-        """The shape of a net with these words in yosys's own language."""
+        """Returns the shape of a net with these words in yosys's own language."""
         it = words.split()
         width, offset = (int(it[it.index(word) + 1]) if word in it else least
                          for word, least in [("width", 1), ("offset", 0)])
         return cls(width, offset, "upto" in it, "signed" in it)
 
     def __str__(self) -> str:
-        """The shape as a declaration in Verilog has it."""
+        """Returns the shape as a declaration in Verilog has it."""
         ends = [self.offset + self.width - 1, self.offset]
         left, right = reversed(ends) if self.is_upto else ends
         return f"{'signed ' * self.is_signed}[{left}:{right}] "
@@ -113,7 +113,7 @@ class Module:
         self.others = {name: kind for kind, name in OTHER.findall(text)}
 
     def is_used(self, name: str) -> bool:
-        """Whether anything but its declaration names a net."""
+        """Returns whether anything but its declaration names a net."""
         return len(re.findall(rf" {re.escape(name)}(?=[ \n])", self.text)) > 1
 
     def without(self, name: str) -> str:
@@ -124,12 +124,12 @@ class Module:
         return self.text
 
     def is_output(self, port: str) -> bool:
-        """Whether something in the module may drive a port."""
+        """Returns whether something in the module may drive a port."""
         net = self.nets.get(port)
         return net is None or "input" not in net.words
 
     def driven(self, modules: Mapping[str, Module]) -> set[str]:
-        """The names of the nets that something in the module drives."""
+        """Returns the names of the nets that something in the module drives."""
         found = {name for target in DRIVEN.findall(self.text) for name in target.split()}
         for kind, ports in INSTANCE.findall(self.text):
             own = modules.get(kind)
@@ -140,18 +140,18 @@ class Module:
 
 
 def attributed(before: str) -> tuple[str, tuple[str, ...]]:
-    """The place of a net with these lines of attributes, and their names."""
+    """Returns the place of a net with these lines of attributes, and their names."""
     place = SOURCE.search(before)
     return place[1] if place else "", tuple(ATTRIBUTE.findall(before))
 
 
 def warned(said: str) -> set[tuple[str, str]]:
-    """The places and the names of the nets that yosys declared by itself, as it says."""
+    """Returns the places and the names of the nets that yosys declared by itself, as it says."""
     return set(WARNED.findall(said))
 
 
 def nodes(said: str) -> Iterator[tuple[Node, list[Node]]]:
-    """Each node of the syntax trees that yosys prints, with those above it."""
+    """Yields each node of the syntax trees that yosys prints, with those above it."""
     above: list[Node] = []
     for depth, kind, path, line, name, bits in NODE.findall(said):
         while above and above[-1].depth >= len(depth):
@@ -164,8 +164,8 @@ def nodes(said: str) -> Iterator[tuple[Node, list[Node]]]:
 
 
 def use_of(node: Node, above: list[Node]) -> Use:
-    """What a name's node says of it: a port of an instance or of a gate declares a net, and so does
-    the left side of an assignment."""
+    """Returns what a name's node says of it: a port of an instance or of a gate declares a net, and
+    so does the left side of an assignment."""
     kinds = [it.kind for it in above]
     inner = kinds[len(kinds) - kinds[::-1].index("ASSIGN"):] if "ASSIGN" in kinds else None
     is_left = inner is not None and set(inner) <= {"CONCAT"} and is_first(
@@ -176,7 +176,8 @@ def use_of(node: Node, above: list[Node]) -> Use:
 
 
 def is_first(path: Sequence[Node], place: int) -> bool:
-    """Whether a path of nodes goes through the first of those below the one at this place."""
+    """Returns whether a path of nodes goes through the first of those below the one at this
+    place."""
     return path[place].children[0] is path[place + 1]
 
 
@@ -213,7 +214,7 @@ class Trees:
 
 
 def ends_with_0(bounds: Node) -> bool:
-    """Whether the range of an array ends with the constant 0."""
+    """Returns whether the range of an array ends with the constant 0."""
     last = bounds.children[-1]
     return len(bounds.children) == 2 and last.kind == "CONSTANT" and not last.bits.strip("0")
 
@@ -227,8 +228,8 @@ class Hierarchy:
             name: Module(own) for name, own in modules_of(text).items()}, trees, places
 
     def found(self, kind: str, path: str) -> Iterator[tuple[str, str]]:
-        """What a path down from a module may be: pairs of a module and the name there of a net, or
-        of what can't be read."""
+        """Yields what a path down from a module may be: pairs of a module and the name there of a
+        net, or of what can't be read."""
         module = self.modules.get(kind)
         if module is None:
             return
@@ -241,25 +242,25 @@ class Hierarchy:
                 yield from self.found(cell, path[end + 1:])
 
     def is_declared(self, net: Net | None) -> bool:
-        """Whether the design declares a net, or Verilog does: a path that yosys took for a net
-        isn't one."""
+        """Returns whether the design declares a net, or Verilog does: a path that yosys took for a
+        net isn't one."""
         is_path = net is not None and "." in net.name and (net.place, net.name) in self.places
         return net is not None and not is_path and not {JOINED, UNKNOWN} & set(net.attributes)
 
     def implicit(self, kind: str) -> list[Net]:
-        """The nets of a module that yosys declared by itself."""
+        """Returns the nets of a module that yosys declared by itself."""
         return [net
                 for net in self.modules[kind].nets.values() if (net.place, net.name) in self.places]
 
     def is_of_interface(self, kind: str, net: Net) -> bool:
-        """Whether a net of a module is of one of its interfaces: yosys declares it later, when it
-        knows the interface."""
+        """Returns whether a net of a module is of one of its interfaces: yosys declares it later,
+        when it knows the interface."""
         module, first = self.modules[kind], net.name.partition(".")[0]
         return (first in module.nets and "is_interface" in module.nets[first].attributes
                 or self.is_interface(module.cells.get(first)))
 
     def is_interface(self, kind: str | None) -> bool:
-        """Whether a module is an interface."""
+        """Returns whether a module is an interface."""
         return kind in self.modules and INTERFACE in self.modules[kind].text
 
     def check_array(self, kind: str, cell: str) -> None:
@@ -271,7 +272,7 @@ class Hierarchy:
                         "and yosys numbers them from 0: write it as [N:0]")
 
     def signal(self, kind: str, path: str) -> Shape:
-        """The net that a path down from a module is: its shape."""
+        """Returns the net that a path down from a module is: its shape."""
         found = list(self.found(kind, path))
         if len(found) != 1:
             raise Fault(f"it may be {len(found)} signals" if found else f"it isn't found: {ABOVE}")
@@ -314,7 +315,7 @@ class Names:
         self.way = DECLARED_LATER if of_interfaces else DECLARED
 
     def fault(self, net: Net, why: object) -> Fault:
-        """The fault that a name isn't declared, or can't be read if it is a path."""
+        """Returns the fault that a name isn't declared, or can't be read if it is a path."""
         what = "can't be read" if "." in net.name else "isn't declared"
         return Fault(self.yosys.told(f"{net.place}: {net.name[1:]} {what}: {why}"))
 
@@ -351,8 +352,8 @@ class Names:
             raise self.fault(net, "`default_nettype none forbids implicit nets")
 
     def unknown(self, said: str) -> Fault | None:
-        """The fault that a name isn't declared, where yosys says so of one that it hadn't taken for
-        a net; else None."""
+        """Returns the fault that a name isn't declared, where yosys says so of one that it hadn't
+        taken for a net; else None."""
         found = REFUSED.search(said)
         if not found:
             return None
@@ -361,15 +362,15 @@ class Names:
         return self.fault(Net(name, Shape(1, 0, False, False), (), place, ()), why)
 
     def declaring(self) -> dict[str, bytes]:
-        """The texts of the Verilog files with these declarations."""
+        """Returns the texts of the Verilog files with these declarations."""
         lines = {module: encoded("".join(f"{line}{name} ; " for name, line in own.items()))
                  for module, own in self.declared.items()}
         return {path: text.with_lines(lines) for path, text in self.texts.items()}
 
     def checked(self, text: str, said: str) -> str:
-        """The design as yosys read it with these declarations, without those that a module doesn't
-        use, once it is checked that each other one is what it is joined with, and that nothing is
-        written by it. Yosys said this of it."""
+        """Returns the design as yosys read it with these declarations, without those that a module
+        doesn't use, once it is checked that each other one is what it is joined with, and that
+        nothing is written by it. Yosys said this of it."""
         hierarchy = Hierarchy(text, self.trees, warned(said))
         for kind, module in hierarchy.modules.items():
             for net in hierarchy.implicit(kind):

@@ -22,19 +22,19 @@ PART = re.compile(r"(.+)\$\[([0-9]+):([0-9]+)\]")
 
 
 def identifier(module: Json, name: str) -> str:
-    """A net's name as yosys's own language has it: there none begins with #, with which a comment
-    begins in a script."""
+    """Returns a net's name as yosys's own language has it: there none begins with #, with which a
+    comment begins in a script."""
     return name if module["netnames"][name]["hide_name"] else f"\\{name}"
 
 
 def pattern_of(name: str) -> str:
-    """The pattern that yosys finds this name by, and no other."""
+    """Returns the pattern that yosys finds this name by, and no other."""
     return re.sub(r"(\W)", r"\\\1", name)
 
 
 def names_of(module: Json) -> dict[Bit, str]:
-    """A name for each bit of a module: of a port, else of a net that the design names, else of
-    another."""
+    """Returns a name for each bit of a module: of a port, else of a net that the design names, else
+    of another."""
     names = {}
     ranked = sorted(module["netnames"].items(),
                     key=lambda it: (it[0] in module["ports"], not it[1]["hide_name"]))
@@ -44,7 +44,7 @@ def names_of(module: Json) -> dict[Bit, str]:
 
 
 def bits_of(module: Json) -> Iterator[tuple[Bit, str]]:
-    """Each bit of the nets that the design names, and its name as a file has it."""
+    """Yields each bit of the nets that the design names, and its name as a file has it."""
     for name, net in module["netnames"].items():
         if not net["hide_name"]:
             is_one = len(net["bits"]) == 1
@@ -53,7 +53,7 @@ def bits_of(module: Json) -> Iterator[tuple[Bit, str]]:
 
 
 def aliases(module: Json) -> dict[str, list[str]]:
-    """All names of each bit that has one, by each of them."""
+    """Returns all names of each bit that has one, by each of them."""
     names = collections.defaultdict(list)
     for bit, name in bits_of(module):
         names[bit].append(name)
@@ -65,12 +65,12 @@ def cells_like(module: Json, kind: str) -> list[Json]:
 
 
 def types(module: Json) -> set[str]:
-    """The types of a module's cells."""
+    """Returns the types of a module's cells."""
     return {cell["type"] for cell in module["cells"].values()}
 
 
 def constants(module: Json) -> set[str | None]:
-    """The names of what has any value, which is the same in each step."""
+    """Returns the names of what has any value, which is the same in each step."""
     names = names_of(module)
     return {names.get(bit)
             for cell in cells_like(module, "$anyconst") for bit in cell["connections"]["Y"]}
@@ -104,7 +104,7 @@ def check_drivers(top: str, module: Json) -> None:
 
 
 def clock_of(top: str, module: Json) -> Clock | None:
-    """The name of the clock, and whether its rising edges count; None without registers.
+    """Returns the name of the clock, and whether its rising edges count; None without registers.
 
     Several are refused by name."""
     names = names_of(module)
@@ -134,8 +134,8 @@ def clock_of(top: str, module: Json) -> Clock | None:
 
 
 def stored(module: Json) -> Iterator[tuple[str, str]]:
-    """New names for what registers with an asynchronous reset hold: the name in the design has its
-    value with the reset."""
+    """Yields new names for what registers with an asynchronous reset hold: the name in the design
+    has its value with the reset."""
     ranked = sorted(module["netnames"].items(),
                     key=lambda it: (not it[1]["hide_name"], -it[0].count(".")))
     nets = {tuple(net["bits"]): (name, net["hide_name"]) for name, net in ranked}
@@ -154,13 +154,13 @@ def stored(module: Json) -> Iterator[tuple[str, str]]:
 
 
 def stored_name(name: str) -> str:
-    """The name of what a register holds whose value with the reset has this name: that of a bit is
-    one of a bit, too."""
+    """Returns the name of what a register holds whose value with the reset has this name: that of a
+    bit is one of a bit, too."""
     return INDEX.sub(f"{STORED}\\1", name, count=1)
 
 
 def all_names(name: str, known: Mapping[str, list[str]]) -> list[str]:
-    """All names of a register of this name, where these are known of signals."""
+    """Returns all names of a register of this name, where these are known of signals."""
     if STORED not in name:
         return known.get(name, [name])
     own = name.replace(STORED, "")
@@ -168,8 +168,8 @@ def all_names(name: str, known: Mapping[str, list[str]]) -> list[str]:
 
 
 def free_names(module: Json) -> Iterator[tuple[str, str]]:
-    """New names for inputs that stand for free values: of the net or its bits, else x0, x1 and so
-    on."""
+    """Yields new names for inputs that stand for free values: of the net or its bits, else x0, x1
+    and so on."""
     taken, count = set(module["netnames"]), 0
     for name, port in module["ports"].items():
         part = PART.fullmatch(name)

@@ -32,7 +32,7 @@ HINTS = {
 
 
 def asked_below(cells: Iterable[Cell], modules: Container[str]) -> int:
-    """How many assertions, and such of liveness, these modules have."""
+    """Returns how many assertions, and such of liveness, these modules have."""
     return sum(cell.type in (ASSERT, LIVE) and cell.module[1:] in modules for cell in cells)
 
 
@@ -87,7 +87,7 @@ class ReadDesign:
 
     def script(self, top: str, way: Way, made: str,
                is_ready: str, copies: Mapping[str, str], folders: Iterable[str]) -> str:
-        """The script that reads the design as far as a top module has it, in this way."""
+        """Returns the script that reads the design as far as a top module has it, in this way."""
         words = {"include": " ".join(f"-I {folder}" for folder in folders),
                  "words": way.words, "inner": way.inner}
         fronts = [FRONTS[file.kind].format(file=copies[file.path], **words) for file in self.files]
@@ -99,7 +99,8 @@ class ReadDesign:
             fronts="\n".join(fronts), top=top, made=made, is_ready=is_ready)
 
     def edges(self) -> str:
-        """The lines that make registers of any clocks such of all steps, where that is wanted."""
+        """Returns the lines that make registers of any clocks such of all steps, where that is
+        wanted."""
         return scripts.EDGES.format(
             reset=self.resetting(scripts.AT_EDGES)) if self.options.multiclock else ""
 
@@ -149,7 +150,7 @@ class ReadDesign:
         return self.reading.printed()
 
     def given(self) -> dict[str, bytes]:
-        """The texts of the Verilog files."""
+        """Returns the texts of the Verilog files."""
         return {file.path: file.data for file in self.files if FRONTS[file.kind] == VERILOG}
 
     def declared(self, top: str) -> str:
@@ -180,8 +181,8 @@ class ReadDesign:
         return modules
 
     def looked_up(self, top: str) -> str:
-        """The same, where names are looked up first, and what is bound to modules is put into
-        them."""
+        """Returns the same, where names are looked up first, and what is bound to modules is put
+        into them."""
         # What looks names up takes long to be compiled.
         from aigprove.designs.names import Names
 
@@ -201,8 +202,8 @@ class ReadDesign:
         return names.checked(self.yosys.text("below.il"), reading.said())
 
     def parameters(self) -> str:
-        """The words that set parameters of the top module, which has to have them: yosys passes
-        over others."""
+        """Returns the words that set parameters of the top module, which has to have them: yosys
+        passes over others."""
         known = PARAMETER.findall(modules_of(self.yosys.text("all.il")).get(f"\\{self.top}", ""))
         for name, _ in self.options.parameter:
             if name not in known:
@@ -211,8 +212,8 @@ class ReadDesign:
         return "".join(f" -chparam {name} {value}" for name, value in self.options.parameter)
 
     def freed_boxes(self, text: str, modules: Mapping[str, str]) -> str:
-        """The design with modules in the place of black boxes whose outputs are to be free; others
-        that it has are refused."""
+        """Returns the design with modules in the place of black boxes whose outputs are to be free;
+        others that it has are refused."""
         boxes = {name: own for name, own in modules.items() if BOX in own}
         known = set(map(base_of, modules))
         for name in self.options.black_box:
@@ -228,9 +229,9 @@ class ReadDesign:
         return text
 
     def passed_over(self, cell: Cell, is_below: bool) -> Iterator[tuple[str, str]]:
-        """A line of an assertion, or another such cell, that no bad state or constraint stands for,
-        and its kind where another question may be about it: it has to be in a module below the top,
-        and one of liveness to have one clock."""
+        """Yields a line of an assertion, or another such cell, that no bad state or constraint
+        stands for, and its kind where another question may be about it: it has to be in a module
+        below the top, and one of liveness to have one clock."""
         if cell.type in KINDS and not (is_below and cell.type in ASKED):
             is_later = is_below and (cell.type == COVER or self.has_lives)
             why = " with --multiclock" * (self.options.multiclock and cell.type in (LIVE, FAIR))
@@ -252,5 +253,5 @@ class ReadDesign:
                            text.format(steps=count, high=count.bit_length() - 1, **words))
 
     def resetting(self, late: str) -> str:
-        """The lines that use these cells, if there is a reset."""
+        """Returns the lines that use these cells, if there is a reset."""
         return scripts.RESET.format(signal=self.reset.signal, late=late) if self.reset else ""

@@ -35,8 +35,8 @@ class Read(NamedTuple):
 
 
 def values_of(text: str, wanted: Container[str]) -> list[dict[str, str]]:
-    """The values of these signals in each step, the highest bit first, in a value change dump of
-    yosys's."""
+    """Returns the values of these signals in each step, the highest bit first, in a value change
+    dump of yosys's."""
     scopes: list[str] = []
     codes = collections.defaultdict[str, list[str]](list)
     now: dict[str, str] = {}
@@ -77,26 +77,19 @@ class Module:
                     self.makers.update(dict.fromkeys(bits, cell))
 
     def place(self, name: str, index: int) -> int:
-        """Which bit of a signal, from the lowest on, has this index."""
+        """Returns which bit of a signal, from the lowest on, has this index."""
         net = self.module["netnames"][name]
         return -1 if net.get("upto") else index - int(net.get("offset", 0))
 
     def width(self, name: str) -> int:
         return len(self.module["netnames"][name]["bits"])
 
-    def is_input(self, name: str) -> bool:
-        return bool(self.module["ports"].get(name, {}).get("direction") == "input")
-
-    def is_held(self, name: str) -> bool:
-        """Whether a signal is what a register holds."""
-        cell = self.makers.get(self.module["netnames"][name]["bits"][0])
-        return cell is not None and bool(CLOCKED.match(cell["type"]))
-
     def read_by(self, name: str) -> list[Read]:
-        """What the assertion of this name reads, up to registers and inputs, the nearest first:
-        registers without a name are those that yosys makes of an assertion at a clock's edge, which
-        reads what was there a step before. With several clocks each register has such ones that
-        hold its last value, so each is passed once: a way around that goes back without an end."""
+        """Returns what the assertion of this name reads, up to registers and inputs, the nearest
+        first: registers without a name are those that yosys makes of an assertion at a clock's
+        edge, which reads what was there a step before. With several clocks each register has such
+        ones that hold its last value, so each is passed once: a way around that goes back without
+        an end."""
         cell = self.module["cells"].get(name)
         ports = cell["connections"] if cell else {}
         left = collections.deque((bit, 0, True) for port in ("A", "EN")
@@ -123,8 +116,8 @@ class Module:
 
 
 def read_as(name: str) -> str:
-    """The name with which a signal is read in the design, also of what a register, or a bit of one,
-    holds beside that."""
+    """Returns the name with which a signal is read in the design, also of what a register, or a bit
+    of one, holds beside that."""
     return BIT.sub(r"\1", name).removesuffix(STORED) if STORED in name else name
 
 
@@ -157,19 +150,19 @@ class Replay:
                                                                           f"{design.top}.{name} (")
 
     def shown(self, name: str, t: int) -> str:
-        """A signal's value in a step, as it is printed."""
+        """Returns a signal's value in a step, as it is printed."""
         bits = self.values[t][name] if t < len(self.values) else "x"
         return f"{word(name)}={number(list(reversed(bits.rjust(self.module.width(name), '0'))))}"
 
     def changed(self, t: int, names: Iterable[str], at_first: Container[str]) -> list[str]:
-        """The signals whose values are others than in the step before; of the first step those that
-        aren't among what is there at first."""
+        """Returns the signals whose values are others than in the step before; of the first step
+        those that aren't among what is there at first."""
         return [self.shown(name, t) for name in names
                 if (self.shown(name, t) != self.shown(name, t - 1) if t else name not in at_first)]
 
     def read(self, last: int) -> Iterator[str]:
-        """A line of the values that the assertion read, where it failed in this step, by the step
-        in which it read them."""
+        """Yields a line of the values that the assertion read, where it failed in this step, by the
+        step in which it read them."""
         for back in sorted({it.back for it in self.direct}):
             values = [self.shown(it.name, last - back)
                       for it in self.direct if it.back == back and back <= last]
@@ -177,15 +170,16 @@ class Replay:
                 yield f"in step {last - back} it reads {' '.join(values)}"
 
     def other(self, design: Design, failed: Sequence[str], name: str) -> str | None:
-        """What fails where yosys runs the design, if that isn't the assertion of this name."""
+        """Returns what fails where yosys runs the design, if that isn't the assertion of this
+        name."""
         return None if any(
             it.startswith(name)
             for it in failed) else f"{design.yosys.told(' and '.join(failed)) or 'none'} fails"
 
     def differing(self, circuit: Circuit,
                   held: Mapping[str, str], words: Mapping[str, str]) -> str | None:
-        """A register that has another value where yosys runs the design than in the file, if there
-        is one."""
+        """Returns a register that has another value where yosys runs the design than in the file,
+        if there is one."""
         steps = [row.replace("x", "0") for row in self.trace.steps]
         for t, values in enumerate(simulation.run(circuit,
                                                   self.trace.start.replace("x", "0"), steps)):

@@ -60,7 +60,7 @@ class Cell(NamedTuple):
 
 
 def cells_of(text: str) -> Iterator[Cell]:
-    """All modules of a design in yosys's own language, each before its cells."""
+    """Yields all modules of a design in yosys's own language, each before its cells."""
     module = place = ""
     for kind, first, second, src in LINE.findall(text):
         if src:
@@ -73,8 +73,8 @@ def cells_of(text: str) -> Iterator[Cell]:
 
 
 def modules_of(text: str) -> dict[str, str]:
-    """The text of each module of a design in yosys's own language, with the attributes before it,
-    by its name."""
+    """Returns the text of each module of a design in yosys's own language, with the attributes
+    before it, by its name."""
     return {found[1]: f"{part}\n"
             for part in text.split("\nend") if (found := re.search(r"\nmodule (\S+)", part))}
 
@@ -115,8 +115,8 @@ def check_constants(modules: Mapping[str, str]) -> None:
 
 
 def constants_in(text: str) -> Iterator[tuple[str, str]]:
-    """What a module's text gives to nets once: pairs of a target and a constant, its lowest bit
-    first, or another text if it is none."""
+    """Yields what a module's text gives to nets once: pairs of a target and a constant, its lowest
+    bit first, or another text if it is none."""
     yield from ((target, bits[::-1]) for target, bits in CONSTANT.findall(text))
     for process in PROCESS.findall(text):
         known = dict(ASSIGNED.findall(process)) if "\n    switch " not in process else {}
@@ -126,8 +126,8 @@ def constants_in(text: str) -> Iterator[tuple[str, str]]:
 
 
 def bits_in(target: str, text: str) -> Iterator[tuple[str, int]]:
-    """The bits of nets in the target of an assignment in the text of a module, from the lowest on:
-    pairs of a name and a place."""
+    """Yields the bits of nets in the target of an assignment in the text of a module, from the
+    lowest on: pairs of a name and a place."""
     for net, first, last in reversed(PARTS.findall(target)):
         width = None if first else re.search(
             rf"\n  wire (?:width ([0-9]+) )?[^\n]*{re.escape(net)}(?=\n)", text)
@@ -137,24 +137,25 @@ def bits_in(target: str, text: str) -> Iterator[tuple[str, int]]:
 
 
 def base_of(name: str) -> str:
-    """The name that a module has in the design: that of one with parameters stands behind the
-    second sign."""
+    """Returns the name that a module has in the design: that of one with parameters stands behind
+    the second sign."""
     return name.split("\\")[1]
 
 
 def source_of(name: str) -> str:
-    """The name that a module has in the text: that of one with interfaces has theirs behind it."""
+    """Returns the name that a module has in the text: that of one with interfaces has theirs behind
+    it."""
     return base_of(name).partition("$interfaces$")[0]
 
 
 def roots_of(cells: Sequence[Cell]) -> list[str]:
-    """The names of the modules that no other has, in order."""
+    """Returns the names of the modules that no other has, in order."""
     types = {cell.type for cell in cells}
     return [cell.module[1:] for cell in cells if cell.type is None and cell.module not in types]
 
 
 def reached(cells: Sequence[Cell], root: str) -> set[str]:
-    """The names of a module and of all below it."""
+    """Returns the names of a module and of all below it."""
     found, left = set(), [root]
     while left:
         found.add(left.pop())
@@ -164,27 +165,27 @@ def reached(cells: Sequence[Cell], root: str) -> set[str]:
 
 
 def item_of_x(text: str) -> str | None:
-    """The place of a case with an item that is x or z, if there is one."""
+    """Returns the place of a case with an item that is x or z, if there is one."""
     item = ITEM.search(text)
     return str(SWITCH.findall(text, 0, item.start())[-1]) if item else None
 
 
 def by_modules(call: Callable[[str], str], text: str) -> str:
-    """A design in yosys's own language with what is made of the text of each module."""
+    """Returns a design in yosys's own language with what is made of the text of each module."""
     return "\nmodule ".join(map(call, text.split("\nmodule ")))
 
 
 def renamed(module: str) -> str:
-    """A module in which what is in tasks, functions and blocks has names that rest on these alone:
-    by yosys's own no register would have a partner in another file."""
+    """Returns a module in which what is in tasks, functions and blocks has names that rest on these
+    alone: by yosys's own no register would have a partner in another file."""
     if "$func$" not in module and UNNAMED not in module:
         return module
     return numbered(numbered(module, CALL, ""), BLOCK, UNNAMED)
 
 
 def numbered(module: str, pattern: re.Pattern[str], behind: str) -> str:
-    """A module in which such names are the scope, what is to stand behind it, and the inner name;
-    of several with one name each has its own number, from 0. Where the design has such a name
+    """Returns a module in which such names are the scope, what is to stand behind it, and the inner
+    name; of several with one name each has its own number, from 0. Where the design has such a name
     itself nothing changes."""
     numbers = collections.defaultdict[tuple[str, str], set[int]](set)
     names: dict[tuple[str | Any, ...], str] = {}
@@ -199,8 +200,8 @@ def numbered(module: str, pattern: re.Pattern[str], behind: str) -> str:
 
 
 def paths_of(nets: Mapping[str, Any]) -> dict[str, str]:
-    """The paths of the nets of a flat module that are below the top, by the names that they have
-    once those in tasks are named."""
+    """Returns the paths of the nets of a flat module that are below the top, by the names that they
+    have once those in tasks are named."""
     paths = {}
     for (name, net), line in zip(nets.items(),
                                  renamed("".join(f"\\{name}\n" for name in nets)).split("\n")):
@@ -212,14 +213,14 @@ def paths_of(nets: Mapping[str, Any]) -> dict[str, str]:
 
 
 def opened(text: str) -> str:
-    """A design in which each x is a wire that nothing drives: yosys would choose its value, or
-    another for each reader. What isn't enabled has the value 0, and not x; and the first of several
-    items that fit counts, though the design says that only one does."""
+    """Returns a design in which each x is a wire that nothing drives: yosys would choose its value,
+    or another for each reader. What isn't enabled has the value 0, and not x; and the first of
+    several items that fit counts, though the design says that only one does."""
     return by_modules(freed, PARALLEL.sub("", UNREACHED.sub(r"\1\2'0", text)))
 
 
 def freed(module: str) -> str:
-    """A module with a wire that nothing drives for each run of bits that are x."""
+    """Returns a module with a wire that nothing drives for each run of bits that are x."""
     if not X.search(module):
         return module
     widths = []

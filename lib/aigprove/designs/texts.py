@@ -49,7 +49,7 @@ class Text:
         self.words = SPACE.sub(lambda found: re.sub(rb"[^\n]", b" ", found[0]), text)
 
     def place(self, offset: int) -> str:
-        """The file and the line of an offset."""
+        """Returns the file and the line of an offset."""
         paths, lines = [""], [0]
         for found in PUSHED.finditer(self.text, 0, offset):
             if found[0] == b"\n":
@@ -73,7 +73,8 @@ class Text:
                 raise self.fault(offset, why)
 
     def misread(self) -> Iterator[tuple[int, str]]:
-        """The places of what yosys reads otherwise than Verilog has it, and what to say of it."""
+        """Yields the places of what yosys reads otherwise than Verilog has it, and what to say of
+        it."""
         for found in INITIAL.finditer(self.words):
             if b"#" in self.words[found.end():self.ending(found.end())]:
                 yield found.start(1), DELAY
@@ -87,11 +88,11 @@ class Text:
                         for found in re.finditer(dimensions, self.words))
 
     def module(self, offset: int) -> str | None:
-        """The name of the module at an offset; None outside of all."""
+        """Returns the name of the module at an offset; None outside of all."""
         return next((name for name, first, end, _ in self.spans() if first <= offset < end), None)
 
     def ending(self, offset: int) -> int:
-        """Where the statement ends that begins at an offset."""
+        """Returns where the statement ends that begins at an offset."""
         depth = 0
         for found in PART.finditer(self.words, offset):
             depth += {b"begin": 1, b"end": -1}.get(found[0], 0)
@@ -102,7 +103,7 @@ class Text:
         return len(self.words)
 
     def types(self) -> Iterator[bytes]:
-        """The names of types that it declares."""
+        """Yields the names of types that it declares."""
         for found in TYPED.finditer(self.words):
             depth, place = 0, found.end()
             while place < len(self.words) and (depth or self.words[place:place + 1] != b";"):
@@ -111,8 +112,8 @@ class Text:
             yield from re.findall(rb"[A-Za-z_][\w$]*", self.words[found.end():place])[-1:]
 
     def spans(self) -> Iterator[tuple[str, int, int, bool]]:
-        """The name of each module, where it begins, where its last word is, and whether implicit
-        nets are allowed in it."""
+        """Yields the name of each module, where it begins, where its last word is, and whether
+        implicit nets are allowed in it."""
         name, first, is_next, is_allowed = None, 0, False, True
         for found in WORD.finditer(self.words):
             word = found[0]
@@ -126,7 +127,7 @@ class Text:
                 yield name, first, found.start(), is_allowed
 
     def with_lines(self, lines: Mapping[str, bytes]) -> bytes:
-        """The text with lines before the end of each module, by its name."""
+        """Returns the text with lines before the end of each module, by its name."""
         parts, last = [], 0
         for module, _, end, _ in self.spans():
             parts += [self.text[last:end], lines.get(module, b"")]
@@ -134,8 +135,8 @@ class Text:
         return b"".join([*parts, self.text[last:]])
 
     def without_bound(self, lines: dict[str, bytes]) -> bytes:
-        """The text without the instances that it binds to modules, which are added to the lines of
-        these."""
+        """Returns the text without the instances that it binds to modules, which are added to the
+        lines of these."""
 
         def blank(found: re.Match[bytes]) -> bytes:
             lines[found[1].decode()] += b" ".join(
@@ -150,7 +151,7 @@ class Text:
 
 
 def expanded(data: bytes) -> list[bytes]:
-    """The texts of the files in what yosys printed of them."""
+    """Returns the texts of the files in what yosys printed of them."""
     texts = EXPANDED.findall(data)
     if any(data.count(mark) != len(texts) for mark in MARKS):
         raise Fault(f"the design has a line {MARKS[-1].decode()}, which yosys prints too")
@@ -158,7 +159,8 @@ def expanded(data: bytes) -> list[bytes]:
 
 
 def bound(texts: Mapping[str, bytes]) -> dict[str, bytes]:
-    """Texts, by their files' paths, in which instances that are bound to modules stand in these."""
+    """Returns texts, by their files' paths, in which instances that are bound to modules stand in
+    these."""
     lines = collections.defaultdict[str, bytes](bytes)
     without = {path: Text(Text(text).without_bound(lines)) for path, text in texts.items()}
     for text in without.values():
@@ -171,7 +173,7 @@ def bound(texts: Mapping[str, bytes]) -> dict[str, bytes]:
 
 
 def moved(text: bytes, before: Iterable[int], now: Iterable[int]) -> bytes:
-    """A text whose folders had these descriptors, and now have others."""
+    """Returns a text whose folders had these descriptors, and now have others."""
     numbers = dict(zip(before, now))
     return FOLDER.sub(lambda found: found[1] + b"%d" % numbers.get(int(found[2]), int(found[2])),
                       text)

@@ -42,8 +42,8 @@ FAILED = re.compile(r"^Warning: Assert (\S+ \(.*\)) failed\.$", re.MULTILINE)
 
 
 def place_of(source: str) -> str:
-    """The place of a cell of a flat module, of which yosys has those of the instances before it,
-    and of what it was made by behind it."""
+    """Returns the place of a cell of a flat module, of which yosys has those of the instances
+    before it, and of what it was made by behind it."""
     own = [place for place in source.split("|") if not MADE.match(place)]
     return own[-1] if own else ""
 
@@ -90,7 +90,7 @@ class Design(ReadDesign):
         return top, module, drawn["ports"].keys()
 
     def top_of(self, name: str) -> tuple[str, Json]:
-        """The name of the top module and what it has, in a file in JSON."""
+        """Returns the name of the top module and what it has, in a file in JSON."""
         return next((name, it)
                     for name, it in self.yosys.modules(name).items() if "top" in it["attributes"])
 
@@ -138,26 +138,27 @@ class Design(ReadDesign):
         return netlist.aliases(self.top_of("whole.json")[1])
 
     def about(self) -> str:
-        """The line of what is asked about."""
+        """Returns the line of what is asked about."""
         counted = [f"{count} {KINDS[kind]}{'s' * (count != 1)}"
                    for kind, count in self.counts.items()]
         return f"{self.top}: {', '.join(counted)}" + (f", {self.reset}" if self.reset else "")
 
     def named(self) -> list[tuple[str, str]]:
-        """The name and the place of each assertion, in the order of the file's properties."""
+        """Returns the name and the place of each assertion, in the order of the file's
+        properties."""
         return [(f"{self.top}.{name}" if is_named else "", self.yosys.told(place))
                 for name, place, is_named in self.assertions]
 
     def assertion(self, number: int) -> tuple[str, str]:
-        """The line of the assertion that a property of the file stands for, and what it is in the
-        design's text."""
+        """Returns the line of the assertion that a property of the file stands for, and what it is
+        in the design's text."""
         name, place, is_named = self.assertions[number]
         place, own = self.yosys.told(place), f".{name}" if is_named else ""
         return f"{KINDS[self.options.kind]} {self.top}{own} ({place})", self.spelled(place)
 
     def spelled(self, place: str) -> str:
-        """The lines of the design's files at a place, as one, where they are known: what is counted
-        in a line are signs without macros."""
+        """Returns the lines of the design's files at a place, as one, where they are known: what is
+        counted in a line are signs without macros."""
         path, _, lines = place.rpartition(":")
         found = re.fullmatch(r"([0-9]+)\.[0-9]+-([0-9]+)\.[0-9]+", lines)
         data = next((file.data for file in self.files if plain(os.fsencode(file.path)) == path),
@@ -182,7 +183,7 @@ class Design(ReadDesign):
         return list(dict.fromkeys(failed)), self.yosys.text("run.vcd")
 
     def is_run(self, script: str, words: Mapping[str, str]) -> bool:
-        """Whether yosys runs a script to its end, in time."""
+        """Returns whether yosys runs a script to its end, in time."""
         try:
             self.yosys.run(script, **words)
         except TranslationTimeout:
@@ -192,7 +193,7 @@ class Design(ReadDesign):
         return True
 
     def spare(self) -> str:
-        """The line that gives a design without a clock one, which yosys wants."""
+        """Returns the line that gives a design without a clock one, which yosys wants."""
         return "" if self.clock else f"add -input {scripts.SPARE} 1"
 
     def replayed(self) -> None:

@@ -77,7 +77,7 @@ class Yosys:
             os.symlink(os.path.join(os.path.abspath(path), entry), os.path.join(folder, entry))
 
     def copied(self, i: int, file: File) -> str:
-        """The place of a copy of a file, by a name that nothing beside it has."""
+        """Returns the place of a copy of a file, by a name that nothing beside it has."""
         folder = f"{self.beside.index(os.path.dirname(file.path) or '.')}/source"
         name = f"design{i or ''}.v"
         while os.path.lexists(self.place(f"{folder}/{name}")):
@@ -105,12 +105,12 @@ class Yosys:
             return file.read()
 
     def modules(self, name: str) -> dict[str, Json]:
-        """What each module has, in a file in JSON that yosys wrote."""
+        """Returns what each module has, in a file in JSON that yosys wrote."""
         modules: dict[str, Json] = json.loads(self.text(name))["modules"]
         return modules
 
     def told(self, said: str) -> str:
-        """What yosys says, with the user's paths for its names."""
+        """Returns what yosys says, with the user's paths for its names."""
         for name in sorted(self.meanings, key=len, reverse=True):
             said = said.replace(name,
                                 plain(os.fsencode(self.meanings[name])).replace("\n", "\\x0a"))
@@ -209,7 +209,7 @@ class Run:
         self.wait()
 
     def wait(self) -> tuple[int, bytes, bool]:
-        """Its status, once it ends, what it printed, and whether the time is over then."""
+        """Returns its status, once it ends, what it printed, and whether the time is over then."""
         if self.outcome is None:
             status = self.yosys.task.finish(self.group)
             self.timer.cancel()
@@ -219,17 +219,17 @@ class Run:
         return self.outcome
 
     def data(self) -> bytes:
-        """The bytes that it has printed so far."""
+        """Returns the bytes that it has printed so far."""
         if self.outcome is not None:
             return self.outcome[1]
         return os.pread(self.out.fileno(), os.fstat(self.out.fileno()).st_size, 0)
 
     def said(self) -> str:
-        """What it has said so far, without the texts that it read."""
+        """Returns what it has said so far, without the texts that it read."""
         return plain(EXPANDED.sub(b"", self.data()))
 
     def printed(self) -> str:
-        """What it prints, once it ends, which has to be with status 0."""
+        """Returns what it prints, once it ends, which has to be with status 0."""
         status, _, is_over = self.wait()
         said = self.said()
         if status != 0 and is_over:

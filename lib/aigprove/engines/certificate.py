@@ -79,14 +79,15 @@ class Certificate:
         if not (self.source.can_be_simulated and is_given):
             return []
         questions = conditions.of_both(self.certificate)
-        return conditions.told(self.asked(questions, self.source.asked)[1])
+        return conditions.line_of_unmet(self.asked(questions, self.source.asked)[1])
 
     def simulated(self) -> Proofs:
         """Returns proofs of the conditions by which the certificate simulates the file."""
         questions = conditions.of_both(self.certificate)
         proofs, solutions = self.asked(questions, self.source.asked)
         if solutions:
-            raise Fault("; ".join([*self.breaking(solutions), *conditions.told(solutions)]))
+            raise Fault(
+                "; ".join([*self.breaking(solutions), *conditions.line_of_unmet(solutions)]))
         return proofs
 
     def breaking(self, solutions: Proofs) -> Iterator[str]:

@@ -3,8 +3,7 @@ from __future__ import annotations
 
 from aigprove.circuits.aiger import Fault
 from aigprove.engines.answers import FAILED, OPEN, SAFE, UNSAFE
-from aigprove.engines.board import Board
-from aigprove.engines.clock import Clock
+from aigprove.engines.board import Board, Clock
 from aigprove.engines.job import Job
 from aigprove.engines.portfolio import Portfolio, engines_of
 from aigprove.engines.problem import Problem
@@ -44,7 +43,9 @@ class Inquiry:
         for line in self.source.about():
             self.printer.print_line(line)
         status = self.answer()
-        if status != SAFE:
+        if status == SAFE:
+            self.scope.end_others(self.job.task)
+        else:
             self.printer.tell_no_certificate(
                 "the answer is a run" if status == UNSAFE else "there is no answer")
         if status == SAFE and self.source.assumed(self.header):
@@ -71,7 +72,6 @@ class Inquiry:
 
     def status_of(self, found: Assumptions | Endless) -> int:
         """Prints whether some run meets what is assumed, by which the answer isn't empty."""
-        self.scope.end_others(self.job.task)
         try:
             if isinstance(found, Endless):
                 found.look(self.job.solver(), self.options.deadline)

@@ -9,6 +9,7 @@ from aigprove.circuits.witness import Witness, read_for
 from aigprove.engines.answers import Certified, Induction, RunFound, StepShown
 from aigprove.engines.board import Board
 from aigprove.engines.problem import Problem
+from aigprove.engines.protocols import Source
 from aigprove.processes.scheduler import Task
 from aigprove.processes.sealed import Sealed
 from aigprove.questions.checker import Claim, Question
@@ -24,7 +25,8 @@ class Job:
 
     def __init__(self, problem: Problem, task: Task, board: Board) -> None:
         self.problem, self.task, self.board = problem, task, board
-        self.options, self.above, self.source = problem.options, problem.above, problem.source
+        self.options, self.above = problem.options, problem.above
+        self.source: Source = problem.source
         self.checker, self.bound = problem.checker.of(task), problem.options.bound
 
     def solver(self) -> Solver:

@@ -59,12 +59,3 @@ class Problem:
                 return trace
         is_short = len(steps) * len(self.circuit.gates) < SIMULATED
         return witness.reached(self.circuit, start, steps) if is_short else None
-
-
-class CircuitProblem(Problem):
-    """A problem whose circuit is known."""
-
-    def __init__(self, options: Options, source: Target, checker: Checker, above: str,
-                 circuit: Circuit) -> None:
-        super().__init__(options, source, checker, above)
-        self.circuit = circuit

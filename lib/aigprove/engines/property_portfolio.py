@@ -11,10 +11,9 @@ from typing import TYPE_CHECKING
 from aigprove.circuits.aiger import Circuit
 from aigprove.circuits.witness import Witness
 from aigprove.engines.answers import SAFE, UNSAFE, Answer, Induction, RunFound, StepShown
-from aigprove.engines.board import Board
-from aigprove.engines.clock import Clock
+from aigprove.engines.board import Board, Clock
 from aigprove.engines.portfolio import Portfolio, engines_of
-from aigprove.engines.problem import CircuitProblem, Problem
+from aigprove.engines.problem import Problem
 from aigprove.options.options import Options
 from aigprove.output.evidence import Evidence
 from aigprove.output.report import PropertyAnswer
@@ -93,11 +92,9 @@ class PropertyPortfolio:
         options = quiet(owner.options, engines)
         self.scope: Scope = Scope(owner.scheduler)
         checker = owner.checker.of(self.scope.task("main"))
-        if circuit is None:
-            self.problem = Problem(options, source, checker, owner.above)
-            self.circuit = self.problem.circuit
-        else:
-            self.problem = CircuitProblem(options, source, checker, owner.above, circuit)
+        self.problem = Problem(options, source, checker, owner.above)
+        if circuit:
+            self.problem.circuit = circuit
         self.board = Board(Clock(owner.deadline), min(answer.steps for answer in answers))
         self.recorder = Recorder(owner, self.problem, self.board, answers)
         self.portfolio = Portfolio(self.problem, self.scope, self.board, self.recorder)

@@ -31,14 +31,8 @@ class CountedFile(Target):
         self.justice, self.checker, self.count = justice, checker, count
         self.path, self.name = justice.path, f"rounds-{count}.aag"
 
-    @functools.cached_property
-    def made(self) -> Sealed:
-        """The file that aigedit makes."""
+    def make(self) -> Sealed:
         return self.justice.rounds(self.checker, self.count)
-
-    @property
-    def asked(self) -> Sealed:
-        return self.made
 
     def circuit(self) -> Circuit:
         return self.checker.circuit(self.asked, "FILE")
@@ -65,7 +59,7 @@ class Counting(Job):
     A run says that so many rounds can end, and nothing of the property."""
 
     def __init__(self, job: Job, count: int) -> None:
-        source = CountedFile(job.source, job.checker, count)
+        source = CountedFile(job.problem.source, job.checker, count)
         problem = CountingProblem(job.options, source, job.checker, job.above)
         super().__init__(problem, job.task, job.board)
         self.count, self.is_reached, self.bound = count, False, None

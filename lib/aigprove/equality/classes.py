@@ -25,7 +25,7 @@ BEGUN, DRAWN, FOUND, IDLE = 16, 4, 8, 3
 
 
 def parts_of(own: Sequence[int], values: Sequence[int]) -> list[list[int]]:
-    """Members of a class by their values, where several have the same."""
+    """Returns members of a class by their values, where several have the same."""
     parts = collections.defaultdict(list)
     for literal, value in zip(own, values):
         parts[value].append(literal)
@@ -48,21 +48,21 @@ class Classes:
             1 << (1 << max(FEWEST, min(MOST, BITS // nodes.all().stop)).bit_length() - 1)) - 1
 
     def drawn(self, literals: Sequence[int]) -> list[int]:
-        """Random values for literals."""
+        """Returns random values for literals."""
         return [self.rng.getrandbits(self.every.bit_length()) for _ in literals]
 
     def size(self) -> int:
-        """How many members aren't the first of their class."""
+        """Returns how many members aren't the first of their class."""
         return sum(map(len, self.rows)) - len(self.rows)
 
     def pairs(self) -> list[tuple[int, int]]:
-        """The first of each class and every other member, in the order of these."""
+        """Returns the first of each class and every other member, in the order of these."""
         return sorted(((own[0], other) for own in self.rows for other in own[1:]),
                       key=lambda pair: pair[1] >> 1)
 
     def members(self, known: Known) -> tuple[Iterable[int], Iterable[int], Sequence[int]]:
-        """Values of each member that isn't the first of its class, and of this first one; and the
-        numbers of their classes."""
+        """Returns values of each member that isn't the first of its class, and of this first one;
+        and the numbers of their classes."""
         if self.listed is not self.rows:
             self.listed = self.rows
             pairs = [(own[0], it, number) for number, own in enumerate(self.rows) for it in own[1:]]
@@ -71,7 +71,7 @@ class Classes:
                    self.firsts), map(known.__getitem__, self.others), self.numbers
 
     def equal(self, known: Known) -> int:
-        """The runs in which the members of each class are equal."""
+        """Returns the runs in which the members of each class are equal."""
         firsts, others, _ = self.members(known)
         return self.every ^ functools.reduce(operator.or_, map(operator.xor, firsts, others), 0)
 
@@ -100,8 +100,8 @@ class Classes:
         return self
 
     def of_first(self, stop: int) -> Classes:
-        """The same of nodes among which are no others than those that a class with one before a
-        place has, and what these read."""
+        """Returns the same of nodes among which are no others than those that a class with one
+        before a place has, and what these read."""
         rows, nodes = [own for own in self.rows if own[0] < stop], self.nodes
         read = itertools.chain(nodes.nexts, nodes.bads, nodes.constraints, *rows)
         nodes, known = nodes.without(nodes.cone(read))
@@ -110,7 +110,7 @@ class Classes:
         return made
 
     def check(self, known: Known, runs: int) -> int:
-        """Those of some runs in which constraints hold, none of which may be bad."""
+        """Returns those of some runs in which constraints hold, none of which may be bad."""
         runs = self.nodes.allowed(known, runs)
         if any(known[bad] & runs for bad in self.nodes.bads):
             raise Different
@@ -150,8 +150,8 @@ class Classes:
                 self.split(values, self.nodes.allowed(values, self.every))
 
     def apart(self, pairs: Iterable[tuple[int, int]]) -> list[int]:
-        """Random values of inputs and latches, which may make one of these pairs different in each
-        run."""
+        """Returns random values of inputs and latches, which may make one of these pairs different
+        in each run."""
         leaves = self.drawn(self.nodes.leaves())
         for run, (left, right) in enumerate(pairs):
             side = self.rng.getrandbits(1) if left else 1
@@ -161,8 +161,8 @@ class Classes:
         return leaves
 
     def merged(self, leaves: Sequence[int], every: int) -> list[int]:
-        """Values of inputs and latches where those of a class have that of the first, unless this
-        is a gate."""
+        """Returns values of inputs and latches where those of a class have that of the first,
+        unless this is a gate."""
         made = [0, *leaves]
         for first, *others in self.rows:
             if first < self.nodes.latches.stop:
@@ -173,7 +173,7 @@ class Classes:
         return made[1:]
 
     def spread(self, values: Iterable[int], runs: int) -> list[int]:
-        """Values of some of these runs, again and again."""
+        """Returns values of some of these runs, again and again."""
         places = [place for place in range(self.every.bit_length()) if runs >> place & 1]
         count = 1 << min(len(places), FEWEST).bit_length() - 1
         times = self.every // ((1 << count) - 1)
@@ -185,8 +185,8 @@ class Classes:
         self.split(sides([*[0] * len(self.nodes.inputs), *state], self.every), runs)
 
     def beside(self, row: Sequence[int]) -> list[int]:
-        """Bits as the first of many runs, and in each other one with some of them inverted, two to
-        four as a rule."""
+        """Returns bits as the first of many runs, and in each other one with some of them inverted,
+        two to four as a rule."""
         made, count = [self.every * bit for bit in row], self.every.bit_length()
         if len(row) > MANY:
             for run in range(1, count):

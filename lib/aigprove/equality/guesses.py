@@ -44,8 +44,8 @@ class Guess(Protocol):
 
 def partners(circuit: Circuit, count: int, others: int,
              alike: Mapping[int, int]) -> dict[int, int | None]:
-    """Of two files with so many latches: the latch of the second, by its place, that is to be a
-    latch of the first: one that starts like it, or has the same name, or else is at the same
+    """Returns, of two files with so many latches, the latch of the second, by its place, that is to
+    be a latch of the first: one that starts like it, or has the same name, or else is at the same
     place."""
     names = {circuit.names.get(("l", i)): i for i in range(len(circuit.latches))}
     named = {i: names.get(OTHER + circuit.names[("l", i)])
@@ -56,7 +56,7 @@ def partners(circuit: Circuit, count: int, others: int,
 
 
 def paired(classes: Classes, other: Mapping[int, int]) -> Classes:
-    """Classes of which pairs of partners, by their literals, are apart from all else."""
+    """Returns classes of which pairs of partners, by their literals, are apart from all else."""
     made = copy.copy(classes)
     made.rows = []
     for own in classes.rows:
@@ -75,8 +75,8 @@ class States:
         self.classes, self.nodes, self.solver, self.is_hard = classes, classes.nodes, solver, False
 
     def pairs(self) -> list[Pair]:
-        """All pairs of latches, and if it is hard those of nodes, by which a step was seen to keep
-        them and nothing bad to be there."""
+        """Returns all pairs of latches, and if it is hard those of nodes, by which a step was seen
+        to keep them and nothing bad to be there."""
         found = None
         while found is None:
             self.classes.settle()
@@ -89,7 +89,7 @@ class States:
         return found
 
     def kept(self) -> list[Pair] | None:
-        """These pairs; None where classes were split."""
+        """Returns these pairs; None where classes were split."""
         classes, size, states, proved = self.classes, self.classes.size(), self.classes.pairs(), 0
         nodes, known = self.nodes.merged(classes.merged(self.nodes.leaves(), 1))
         inner, limits = self.inner(nodes), [] if self.is_hard else limits_for(len(nodes.gates.rows))
@@ -106,8 +106,8 @@ class States:
         return None
 
     def inner(self, nodes: Nodes) -> Classes:
-        """Classes of nodes that are equal where members of classes are, as random values have it,
-        if it is hard; else there are none."""
+        """Returns classes of nodes that are equal where members of classes are, as random values
+        have it, if it is hard; else there are none."""
         made = Classes(nodes, self.classes.rng, self.classes.every)
         if self.is_hard:
             made.gather(nodes.all(), made.drawn(nodes.leaves()))
@@ -130,12 +130,12 @@ class States:
 
 
 def limits_for(gates: int) -> list[str]:
-    """The words of cadical's limits where it is to end soon, of so many gates."""
+    """Returns the words of cadical's limits where it is to end soon, of so many gates."""
     return ["-t", str(LEAST + gates // QUICK), *(["-c", str(FEW)] if gates <= MANY else [])]
 
 
 def of_nodes(pairs: Iterable[Pair], known: Sequence[int]) -> list[Pair]:
-    """Pairs of literals as those of the first nodes that have them."""
+    """Returns pairs of literals as those of the first nodes that have them."""
     own = {value: literal for literal, value in reversed(list(enumerate(known)))}
     return [(own[left], own[right]) for left, right in pairs]
 
@@ -147,7 +147,8 @@ class Steps:
         self.classes, self.nodes, self.solver = classes, classes.nodes, solver
 
     def pairs(self) -> list[Pair]:
-        """Pairs of them, by which first states were seen to have them, and a step to keep them."""
+        """Returns pairs of them, by which first states were seen to have them, and a step to keep
+        them."""
         size = None
         self.settle()
         while size != self.classes.size():
@@ -172,8 +173,8 @@ class Steps:
             self.follow([*values[:len(nodes.inputs)], *state], classes.every)
 
     def constraints(self, leaves: Sequence[int], gates: Gates) -> list[int]:
-        """The literals of the constraints, by those of inputs and latches, whether classes hold or
-        not."""
+        """Returns the literals of the constraints, by those of inputs and latches, whether classes
+        hold or not."""
         return self.nodes.allowing(self.nodes.literals(leaves,
                                                        gates)) if self.nodes.constraints else []
 
@@ -207,8 +208,8 @@ class Steps:
         self.follow([*values[count:], *state], runs)
 
     def after(self, united: MergedNodes, leaves: Sequence[int]) -> tuple[list[int], int]:
-        """The latches in the step that follows one in which members of classes are equal, and the
-        runs in which they are."""
+        """Returns the latches in the step that follows one in which members of classes are equal,
+        and the runs in which they are."""
         known = self.nodes.values(united.leaves(leaves, self.classes.every), self.classes.every)
         return self.nodes.following(known), self.nodes.allowed(known, self.classes.equal(known))
 
@@ -233,8 +234,9 @@ class Steps:
 
 
 def certificate(nodes: Nodes, pairs: list[Pair]) -> bytes:
-    """The text of a certificate whose bad states are those in which a pair differs; of what stands
-    on others first, as they are asked about the last first. It has the gates that pairs read."""
+    """Returns the text of a certificate whose bad states are those in which a pair differs; of what
+    stands on others first, as they are asked about the last first. It has the gates that pairs
+    read."""
     pairs, gates = Pairs(nodes, pairs).needed(), Gates(nodes.gates.next)
     read = nodes.cone(itertools.chain.from_iterable(pairs))
     gates.rows = [row for row in nodes.gates.rows if row[0] in read]
@@ -258,7 +260,8 @@ class Guesses:
         self.counts: tuple[int, int] = (given["counts"][0], given["counts"][1])
 
     def certificate(self) -> bytes | None:
-        """The certificate of the first guess that a step keeps; None where there is none."""
+        """Returns the certificate of the first guess that a step keeps; None where there is
+        none."""
         try:
             for guess in self.guesses():
                 if (pairs := self.kept(guess)) is not None:
@@ -268,8 +271,8 @@ class Guesses:
         return None
 
     def guesses(self) -> Iterator[Guess]:
-        """What may be equal: registers and their partners, others, and other nodes, also in steps
-        ahead."""
+        """Yields what may be equal: registers and their partners, others, and other nodes, also in
+        steps ahead."""
         nodes, rng = Nodes(self.circuit, self.alike), random.Random(0)
         latches = Classes(nodes, rng).begin([0, *nodes.latches])
         given = partners(self.circuit, *self.counts, self.alike)
@@ -282,12 +285,12 @@ class Guesses:
         yield from itertools.chain([States(paired(latches, other), self.solver)], *ways)
 
     def present(self, rng: random.Random) -> Iterator[Guess]:
-        """Nodes of one step."""
+        """Yields nodes of one step."""
         nodes = Nodes(self.circuit, self.alike)
         yield Steps(Classes(nodes, rng).begin(nodes.all()), self.solver)
 
     def ahead(self, rng: random.Random) -> Iterator[Guess]:
-        """Also nodes of the next steps, first without those that are equal to such alone."""
+        """Yields also nodes of the next steps, first without those that are equal to such alone."""
         whole = []
         for steps in AHEAD:
             stop, nodes = self.nodes_ahead(steps)
@@ -297,8 +300,8 @@ class Guesses:
             yield Steps(classes, self.solver)
 
     def nodes_ahead(self, steps: int) -> tuple[int, Nodes]:
-        """Nodes, and also those of so many next steps, behind the place before which the others
-        are."""
+        """Returns nodes, and also those of so many next steps, behind the place before which the
+        others are."""
         nodes = Nodes(self.circuit, self.alike)
         stop = nodes.all().stop
         nodes.look_ahead(steps)

@@ -20,7 +20,7 @@ class Pairs:
         self.implied: dict[int, int] = {}
 
     def unite(self) -> list[int]:
-        """The literals of all nodes.
+        """Returns the literals of all nodes.
 
         Finds the gates that are what stands for them once those below them are."""
         known, gates = [0, 1], self.gates
@@ -38,20 +38,20 @@ class Pairs:
         return known
 
     def apart(self) -> set[int]:
-        """Such gates that aren't what stands for them in the next step as well, unless pairs are
-        equal there, too."""
+        """Returns such gates that aren't what stands for them in the next step as well, unless
+        pairs are equal there, too."""
         now = self.unite()
         later = self.nodes.literals([*self.inputs, *self.nodes.following(now)], self.gates)
         return {gate for gate, same in self.implied.items() if later[gate] != later[same]}
 
     def read(self, gate: int) -> set[int]:
-        """The nodes that a gate reads."""
+        """Returns the nodes that a gate reads."""
         rows, first = self.nodes.gates.rows, self.nodes.latches.stop
         return {literal & ~1
                 for literal in rows[(gate - first) >> 1][1:]} if gate >= first else set()
 
     def needed(self) -> list[tuple[int, int]]:
-        """The pairs that stay.
+        """Returns the pairs that stay.
 
         In the next step a pair of gates may be left out if its operands are equal by clauses, but
         not if they are themselves pairs that were left out so: that would take cases."""

@@ -25,8 +25,8 @@ NAMED, MADE = 10, re.compile(r"_[0-9]+_(\[[0-9]+\])?")
 
 
 def partners(way: str, first: Circuit, other: Circuit) -> dict[int, int]:
-    """The place of the first circuit's register for each of the other's that starts like it, by its
-    place."""
+    """Returns the place of the first circuit's register for each of the other's that starts like
+    it, by its place."""
     ours, theirs = first.opened(), other.opened()
     if way == BY_ORDER:
         return dict(zip(theirs, ours))
@@ -36,7 +36,7 @@ def partners(way: str, first: Circuit, other: Circuit) -> dict[int, int]:
 
 
 def way_by_names(circuits: Iterable[Circuit]) -> str:
-    """By name, where all registers with open start have one, else by order."""
+    """Returns by name, if all registers with open start have one, and otherwise by order."""
     return BY_NAME if all(("l", i) in circuit.names
                           for circuit in circuits for i in circuit.opened()) else BY_ORDER
 
@@ -54,7 +54,8 @@ class Starts:
 
 
 def alone(way: str, paths: Sequence[str], first: Circuit, other: Circuit) -> Iterator[str]:
-    """Lines of the registers with open start that have no partner in the other file, and why."""
+    """Yields lines of the registers with open start that have no partner in the other file, and
+    why."""
     found = partners(way, first, other)
     yield from lines_of_alone(way, paths, first, other, set(found.values()))
     yield from lines_of_alone(way, paths[::-1], other, first, set(found))
@@ -62,14 +63,14 @@ def alone(way: str, paths: Sequence[str], first: Circuit, other: Circuit) -> Ite
 
 def lines_of_alone(way: str, paths: Sequence[str],
                    own: Circuit, other: Circuit, matched: set[int]) -> Iterator[str]:
-    """These lines of one file, in which registers at these places have partners."""
+    """Yields these lines of one file, in which registers at these places have partners."""
     names = collections.defaultdict[str, dict[str, bool]](dict)
     known = open_names(other)
     for place in own.opened():
         if place not in matched:
             why = "{} has fewer" if way == BY_ORDER else why_alone(own.names.get(("l", place)),
                                                                    known)
-            names[why][told(own, place)] = True
+            names[why][shown(own, place)] = True
     for why, found in names.items():
         listed = [*list(found)[:NAMED],
                   *[f"and {len(found) - NAMED} others"] * (len(found) > NAMED)]
@@ -78,15 +79,15 @@ def lines_of_alone(way: str, paths: Sequence[str],
             f"{' '.join(listed)} ({why.format(other_path)})"
 
 
-def told(circuit: Circuit, place: int) -> str:
-    """A register as it is told: by its place where it has no name, and the bits of a word as
-    one."""
+def shown(circuit: Circuit, place: int) -> str:
+    """Returns a register as it is told: by its place where it has no name, and the bits of a word
+    as one."""
     name = circuit.names.get(("l", place))
     return f"l{place}" if name is None else word(decoded(re.sub(rb"\[[0-9]+\]$", b"", name)))
 
 
 def open_names(circuit: Circuit) -> dict[bytes | None, bool]:
-    """Of the names of a circuit's registers, whether one with open start has it."""
+    """Returns of the names of a circuit's registers whether one with open start has it."""
     known: dict[bytes | None, bool] = {}
     for i, reset in enumerate(circuit.resets):
         name = circuit.names.get(("l", i))
@@ -95,7 +96,8 @@ def open_names(circuit: Circuit) -> dict[bytes | None, bool]:
 
 
 def why_alone(name: bytes | None, known: Mapping[bytes | None, bool]) -> str:
-    """Why a register of this name has no partner by name, where these are known of another file."""
+    """Returns why a register of this name has no partner by name, where these are known of another
+    file."""
     if name is None:
         return "no name"
     if name not in known:
@@ -104,9 +106,9 @@ def why_alone(name: bytes | None, known: Mapping[bytes | None, bool]) -> str:
 
 
 def order(letter: str, first: Named, other: Named) -> list[int] | None:
-    """The places of the second circuit's signals of a kind in the order in which the first has
-    their names; as they stand where the counts differ, or some have no name or the same one. None
-    where both haven't the same names."""
+    """Returns the places of the second circuit's signals of a kind in the order in which the first
+    has their names; as they stand where the counts differ, or some have no name or the same one.
+    None where both haven't the same names."""
     ours, theirs = ([it.names.get((letter, i)) for i in range(getattr(it.header, KINDS[letter]))]
                     for it in (first, other))
     if len(ours) != len(theirs) or any(None in names or len(set(names)) < len(names)
@@ -117,12 +119,12 @@ def order(letter: str, first: Named, other: Named) -> list[int] | None:
 
 
 def orders(first: Named, other: Named) -> dict[str, list[int] | None]:
-    """These of all kinds, by their letters."""
+    """Returns these of all kinds, by their letters."""
     return {letter: order(letter, first, other) for letter in SIGNALS}
 
 
 def arranged(circuit: Circuit, places: Mapping[str, Sequence[int]]) -> Circuit:
-    """The circuit with its signals of these kinds in the order of these places."""
+    """Returns the circuit with its signals of these kinds in the order of these places."""
     made = copy.copy(circuit)
     made.names = {place: name for place, name in circuit.names.items() if place[0] not in places}
     for letter, own in places.items():
@@ -134,16 +136,15 @@ def arranged(circuit: Circuit, places: Mapping[str, Sequence[int]]) -> Circuit:
 
 
 def best(names: Iterable[str]) -> str:
-    """Of the names of a register one that a person gave, of fewest modules, and of these the
-    shortest."""
+    """Returns the name of a register that a person gave, of fewest modules, and the shortest."""
     return min(names, key=lambda name: (MADE.fullmatch(name) is not None,
                                         name.count("."), len(name), name))
 
 
 def chosen(designs: Sequence[Mapping[int, Sequence[str]]]) -> list[dict[int, str]]:
-    """A name for each register of designs, of which all names are given by their places: of two
-    designs one that both have, where there is such, and else one that no other register of the same
-    has."""
+    """Returns a name for each register of designs, of which all names are given by their places: of
+    two designs one that both have, where there is such, and else one that no other register of the
+    same has."""
     made: list[dict[int, str]] = [{} for _ in designs]
     if len(designs) == 2:
         places = {name: place for place, names in designs[1].items() for name in names}
@@ -161,7 +162,7 @@ def chosen(designs: Sequence[Mapping[int, Sequence[str]]]) -> list[dict[int, str
 
 
 def with_registers(circuit: Circuit, names: Mapping[int, str]) -> Circuit:
-    """The circuit with these names of registers, by their places."""
+    """Returns the circuit with these names of registers, by their places."""
     made = copy.copy(circuit)
     made.names = {place: name for place, name in circuit.names.items() if place[0] != "l"}
     made.names.update((("l", place), encoded(names[place])) for place in sorted(names))

@@ -11,8 +11,8 @@ Apart = tuple[tuple[int, int], tuple[int, int]]
 
 
 def read_by(classes: Classes) -> dict[int, tuple[int, ...]]:
-    """What stands before each node: before a gate its operands, and before a latch the first gate
-    of its class, if there is one."""
+    """Returns what stands before each node: before a gate its operands, and before a latch the
+    first gate of its class, if there is one."""
     nodes = classes.nodes
     read: dict[int, tuple[int, ...]] = {
         gate: (left & ~1, right & ~1) for gate, left, right in nodes.gates.rows}
@@ -25,8 +25,8 @@ def read_by(classes: Classes) -> dict[int, tuple[int, ...]]:
 
 
 def ordered(classes: Classes) -> list[int]:
-    """All nodes, by their literals, in an order in which each stands behind what it reads, but for
-    latches that a gate of their class reads."""
+    """Returns all nodes, by their literals, in an order in which each stands behind what it reads,
+    but for latches that a gate of their class reads."""
     read, order, done, first = read_by(classes), [], {0}, classes.nodes.latches.stop
     for root in classes.nodes.all():
         path, opened = [root], set()
@@ -66,9 +66,9 @@ class MergedNodes:
 
     def literals(self, leaves: Sequence[int],
                  gates: Gates, merged: dict[int, int]) -> tuple[list[int], list[Apart]]:
-        """The literals of all nodes, by those of inputs and latches, and pairs that aren't one by
-        themselves: the literals of two nodes, and what they would be. What is equal so, as all
-        pairs are from there on, is told in `merged`."""
+        """Returns the literals of all nodes, by those of inputs and latches, and pairs that aren't
+        one by themselves: the literals of two nodes, and what they would be. What is equal so, as
+        all pairs are from there on, is told in `merged`."""
         known, apart = [0, 1] + [0] * (self.nodes.all().stop - 2), []
         for it, below, same in self.rows:
             value = gates.both(known[below[0]], known[below[1]]) if below else leaves[(it >> 1) - 1]
@@ -82,8 +82,8 @@ class MergedNodes:
         return known, apart
 
     def leaves(self, values: Sequence[int], every: int) -> list[int]:
-        """Values of inputs and latches for which members of a class are equal, as far as latches
-        may be what others are."""
+        """Returns values of inputs and latches for which members of a class are equal, as far as
+        latches may be what others are."""
         known = [0, every] + [0] * (self.nodes.all().stop - 2)
         for it, below, same in self.rows:
             value = (known[same] if same is not None else known[below[0]] & known[below[1]]

@@ -17,21 +17,21 @@ TRUE, FALSE = -1, 1
 
 
 def parsed(clauses: bytes) -> tuple[int, int]:
-    """How many variables a file in DIMACS form has, and where its clauses begin."""
+    """Returns how many variables a file in DIMACS form has, and where its clauses begin."""
     head = 0 if clauses.startswith(b"p cnf ") else clauses.index(b"\np cnf ") + 1
     end = clauses.index(b"\n", head)
     return int(clauses[head:end].split()[2]), end + 1
 
 
 def is_short(line: bytes) -> bool:
-    """Whether a clause has one literal, or none."""
+    """Returns whether a clause has one literal, or none."""
     return line.count(b" ") < 2
 
 
 def definitions(lines: Sequence[bytes]) -> tuple[list[Gate], list[tuple[int, ...]]]:
-    """Of the lines of clauses, as our programs print them raw: the gates, by the variable and its
-    two operands, and the clauses of one literal that stand before and behind these. A gate has
-    three clauses: -v x, -v y, v -x -y."""
+    """Returns of the lines of clauses, as our programs print them raw, the gates, by the variable
+    and its two operands, and the clauses of one literal that stand before and behind these. A gate
+    has three clauses: -v x, -v y, v -x -y."""
     first, stop = 0, len(lines)
     while first < stop and is_short(lines[first]):
         first += 1
@@ -46,7 +46,7 @@ def definitions(lines: Sequence[bytes]) -> tuple[list[Gate], list[tuple[int, ...
 
 
 def clauses_of(variable: int, left: int, right: int) -> list[list[int]]:
-    """The clauses of a gate."""
+    """Returns the clauses of a gate."""
     return [[-variable, left], [-variable, right], [variable, -left, -right]]
 
 
@@ -55,19 +55,19 @@ def text_of(clause: Iterable[int]) -> bytes:
 
 
 def texts_of(clauses: Iterable[Iterable[int]]) -> Iterator[bytes]:
-    """The texts of clauses, of those that say the same one, and of those that are always true
-    none."""
+    """Returns the texts of clauses, of those that say the same one, and of those that are always
+    true none."""
     sets = dict.fromkeys(frozenset(clause) for clause in clauses)
     return (text_of(own) for own in sets if TRUE not in own and not any(-it in own for it in own))
 
 
 def is_plain(variable: int, left: int, right: int) -> bool:
-    """Whether no clause of a gate can be always true, or has a literal twice."""
+    """Returns whether no clause of a gate can be always true, or has a literal twice."""
     return len({1, abs(variable), abs(left), abs(right)}) == 4
 
 
 def text_of_gate(variable: int, left: int, right: int) -> bytes:
-    """The text of a gate's clauses."""
+    """Returns the text of a gate's clauses."""
     if is_plain(variable, left, right):
         return b"%d %d 0\n%d %d 0\n%d %d %d 0\n" % (-variable, left, -variable,
                                                     right, variable, -left, -right)
@@ -75,14 +75,14 @@ def text_of_gate(variable: int, left: int, right: int) -> bytes:
 
 
 def text_of_lemmas(literal: int, other: int) -> bytes:
-    """The text of clauses that say that a literal is another."""
+    """Returns the text of clauses that say that a literal is another."""
     if abs(other) == 1:
         return b"%d 0\n" % (literal if other == TRUE else -literal)
     return b"%d %d 0\n%d %d 0\n" % (-literal, other, literal, -other)
 
 
 def literal_of(left: int, right: int) -> int | None:
-    """The literal that an and is, if it is one; else None."""
+    """Returns the literal that an and is, if it is one; else None."""
     if FALSE in (left, right) or left == -right:
         return FALSE
     if left == TRUE or left == right:
@@ -115,7 +115,7 @@ class Merging:
                                        for variable, one, two in left))
 
     def literal(self, of: int) -> int:
-        """What stands for a literal."""
+        """Returns what stands for a literal."""
         return self.same[of]
 
     def resolve(self) -> None:
@@ -125,8 +125,8 @@ class Merging:
             self.same[variable], self.same[-variable] = it, -it
 
     def merge(self, gates: Iterable[Gate]) -> list[Gate]:
-        """The gates that are left when variables of the same definition are merged: those that say
-        more than others before them."""
+        """Returns the gates that are left when variables of the same definition are merged: those
+        that say more than others before them."""
         self.resolve()
         same, made, left = self.same, dict[tuple[int, int], int | None](), list[Gate]()
         for gate in gates:
@@ -164,14 +164,14 @@ class Merging:
                     self.same[right], self.same[-right] = -left, left
 
     def last_of(self, literal: int) -> int:
-        """What stands for a literal, and for that, and so on."""
+        """Returns what stands for a literal, and for that, and so on."""
         while (it := self.same[literal]) != literal:
             literal = it
         return literal
 
     def asked(self) -> Iterator[bytes]:
-        """A file of cadical's that asks about the literals of the last clause in turn, the last
-        first; nothing where all are false."""
+        """Yields a file of cadical's that asks about the literals of the last clause in turn, the
+        last first; nothing where all are false."""
         wanted = dict.fromkeys(it for it in map(self.literal, reversed(self.last)) if it != FALSE)
         if wanted:
             yield b"p inccnf\n-1 0\n"
@@ -180,7 +180,8 @@ class Merging:
             yield from (b"a %d 0\n" % it for it in wanted)
 
     def proof(self) -> bytes:
-        """The begin of a proof: each merged variable and what stood for it then imply one another.
+        """Returns the begin of a proof: each merged variable and what stood for it then imply one
+        another.
 
         Then come clauses that are shorter than those that were printed, by which unit propagation
         finds more."""
@@ -217,8 +218,8 @@ def main(folder: str, *words: str) -> None:
 
 
 def started(words: list[str], out: str) -> int:
-    """The number of a process that these words start, without input, and whose output goes into a
-    file. Python ignores what ends a program that writes too much."""
+    """Returns the number of a process that these words start, without input, and whose output goes
+    into a file. Python ignores what ends a program that writes too much."""
     streams = [(os.POSIX_SPAWN_OPEN, 0, os.devnull, os.O_RDONLY, 0),
                (os.POSIX_SPAWN_OPEN, 1, out, os.O_WRONLY | os.O_CREAT | os.O_EXCL, 0o600)]
     return os.posix_spawnp(words[0], words, os.environ,

@@ -29,22 +29,23 @@ class Nodes:
                                                    for literals in lists)
 
     def all(self) -> range:
-        """The literals of all nodes."""
+        """Returns the literals of all nodes."""
         return range(0, self.gates.next, 2)
 
     def leaves(self) -> list[int]:
         return [*self.inputs, *self.latches]
 
     def first(self, values: Iterable[int], every: int) -> list[int]:
-        """The first values of the latches, by these of those that are open, in the runs of `every`;
-        where this is 1 they may be literals."""
+        """Returns the first values of the latches, by these of those that are open, in the runs of
+        `every`; where this is 1 they may be literals."""
         state = [every * reset if reset < 2 else value for reset, value in zip(self.resets, values)]
         for place, partner in self.alike.items():
             state[place] = state[partner]
         return state
 
     def values(self, leaves: Sequence[int], every: int) -> list[int]:
-        """The values of all literals, by those of inputs and latches, in the runs of `every`."""
+        """Returns the values of all literals, by those of inputs and latches, in the runs of
+        `every`."""
         known = sides(leaves, every)
         for _, left, right in self.gates.rows:
             value = known[left] & known[right]
@@ -52,7 +53,7 @@ class Nodes:
         return known
 
     def literals(self, leaves: Sequence[int], gates: Gates) -> list[int]:
-        """The same of literals of other gates."""
+        """Returns the same of literals of other gates."""
         known = sides(leaves, 1) + [0] * (self.gates.next - self.latches.stop)
         for gate, left, right in self.gates.rows:
             known[gate] = gates.both(known[left], known[right])
@@ -60,34 +61,34 @@ class Nodes:
         return known
 
     def next(self, literal: int) -> int:
-        """The literal of what a latch, or 0, is in the next step."""
+        """Returns the literal of what a latch, or 0, is in the next step."""
         if literal < 2:
             return literal
         return self.nexts[(literal - self.latches.start) // 2] ^ literal & 1
 
     def following(self, known: Known) -> list[int]:
-        """The next values of the latches."""
+        """Returns the next values of the latches."""
         return [known[literal] for literal in self.nexts]
 
     def allowing(self, known: Known) -> list[int]:
-        """The constraints."""
+        """Returns the constraints."""
         return [known[literal] for literal in self.constraints]
 
     def allowed(self, known: Known, runs: int) -> int:
-        """Those of some runs in which the constraints hold."""
+        """Returns those of some runs in which the constraints hold."""
         for literal in self.constraints:
             runs &= known[literal]
         return runs
 
     def merged(self, leaves: Sequence[int]) -> tuple[Nodes, list[int]]:
-        """The same where inputs and latches are these literals of them, and the literals that all
-        of its own have there."""
+        """Returns the same where inputs and latches are these literals of them, and the literals
+        that all of its own have there."""
         gates = Gates(self.latches.stop)
         known = self.literals(leaves, gates)
         return self.with_gates(gates, known), known
 
     def with_gates(self, gates: Gates, known: Known) -> Nodes:
-        """The same over other gates, by what its literals are there."""
+        """Returns the same over other gates, by what its literals are there."""
         made, lists = copy.copy(self), [self.nexts, self.bads, self.constraints]
         made.gates = gates
         made.nexts, made.bads, made.constraints = ([known[literal] for literal in literals]
@@ -95,7 +96,7 @@ class Nodes:
         return made
 
     def cone(self, literals: Iterable[int]) -> set[int]:
-        """The nodes that literals read, by their literals."""
+        """Returns the nodes that literals read, by their literals."""
         seen = {literal & ~1 for literal in literals}
         for gate, left, right in reversed(self.gates.rows):
             if gate in seen:
@@ -103,8 +104,8 @@ class Nodes:
         return seen
 
     def without(self, kept: set[int]) -> tuple[Nodes, list[int]]:
-        """The same with no gates but these, which have all that they read, and the literals that
-        its own have there."""
+        """Returns the same with no gates but these, which have all that they read, and the literals
+        that its own have there."""
         first, gates = self.latches.stop, Gates(self.latches.stop)
         known = [*range(first), *[0] * (self.gates.next - first)]
         for gate, left, right in self.gates.rows:
@@ -114,7 +115,8 @@ class Nodes:
         return self.with_gates(gates, known), known
 
     def reached(self, literals: Iterable[int], rng: random.Random) -> list[int]:
-        """Inputs and latches, inverted where they are to be 0, that may make literals true."""
+        """Returns inputs and latches, inverted where they are to be 0, that may make literals
+        true."""
         first, left = self.latches.stop, list(literals)
         values: dict[int, int] = {}
         choices: list[Sequence[int]] = []
@@ -147,7 +149,7 @@ class Nodes:
 
 
 def sides(values: Iterable[int], every: int) -> list[int]:
-    """0 and 1, and values and their inverses, one after the other."""
+    """Returns 0 and 1, and values and their inverses, one after the other."""
     known = [0, every]
     for value in values:
         known += value, value ^ every

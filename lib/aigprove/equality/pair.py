@@ -69,10 +69,6 @@ class Pair(Target):
         # From here on both circuits are seldom read.
         self.by_position, self.known = list(self.lines_by_position()), None
 
-    @property
-    def asked(self) -> Sealed:
-        return self.miter
-
     def read(self, options: Options, other: str, above: str) -> tuple[InputFile, InputFile]:
         """Returns both files, which are read side by side.
 
@@ -121,7 +117,7 @@ class Pair(Target):
         """Makes the miter, with uninitialised registers that begin so."""
         words = self.called("miter", matched.SUFFIXES[way])
         try:
-            self.miter = self.checker.made(*words, self.first.file, self.other.file)
+            self.asked = self.checker.made(*words, self.first.file, self.other.file)
         except Fault as why:
             if not str(why).startswith(MISFIT):
                 raise
@@ -226,7 +222,7 @@ class Pair(Target):
     def circuit(self) -> Circuit:
         """Returns the circuit of the miter, whose properties have the names of what they
         compare."""
-        circuit, first = self.checker.circuit(self.miter, "MITER"), self.first.circuit()
+        circuit, first = self.checker.circuit(self.asked, "MITER"), self.first.circuit()
         circuit.names.update((("b", i), first.name(*place) if place else b"constraints")
                              for i, place in enumerate(self.compared()))
         if self.constraints == COMPARED:
@@ -335,7 +331,7 @@ class Pair(Target):
         self.first.keep(evidence)
         self.other.keep(evidence)
         words = self.called("miter", self.starts.suffix)
-        evidence.makes(self.name, self.miter, *words, self.first.name, self.other.name)
+        evidence.makes(self.name, self.asked, *words, self.first.name, self.other.name)
 
 
 def unmet(which: str, circuit: Circuit, trace: Witness, place: int) -> Iterator[str]:

@@ -30,8 +30,8 @@ PART = 0.9
 
 
 def machine(nodes: Nodes) -> bytes:
-    """A machine in binary form that has some nodes as its outputs, from the first latch on, and
-    whose latches are 0 at first."""
+    """Returns a machine in binary form that has some nodes as its outputs, from the first latch on,
+    and whose latches are 0 at first."""
     if any(nodes.resets):
         return begun(nodes)
     outputs = range(nodes.latches.start, nodes.all().stop, 2)
@@ -39,8 +39,8 @@ def machine(nodes: Nodes) -> bytes:
 
 
 def begun(nodes: Nodes) -> bytes:
-    """The same where latches are 1 at first, or open: the latch behind all others says whether the
-    machine has begun, and else an input is an open latch's value."""
+    """Returns the same where latches are 1 at first, or open: the latch behind all others says
+    whether the machine has begun, and else an input is an open latch's value."""
     count, latches = len(nodes.inputs), len(nodes.latches)
     opened = [i for i, reset in enumerate(nodes.resets) if reset > 1 and i not in nodes.alike]
     first = 2 * (1 + count + len(opened))
@@ -55,7 +55,7 @@ def begun(nodes: Nodes) -> bytes:
 
 
 def outputs(data: bytes) -> list[int]:
-    """The literals of the outputs of a file in binary form."""
+    """Returns the literals of the outputs of a file in binary form."""
     lines = Lines(data, "ABC's file")
     header = Header(lines)
     lines.skip(header.latches)
@@ -63,8 +63,8 @@ def outputs(data: bytes) -> list[int]:
 
 
 def rows(nodes: Nodes, literals: Iterable[int]) -> list[list[int]]:
-    """Classes of nodes, by what stands for each from the first latch on; that of 0 is the first
-    one."""
+    """Returns classes of nodes, by what stands for each from the first latch on; that of 0 is the
+    first one."""
     found = collections.defaultdict(list, {0: [0]})
     for node, literal in zip(range(nodes.latches.start, nodes.all().stop, 2), literals):
         found[literal & ~1].append(node ^ literal & 1)
@@ -91,8 +91,8 @@ class FoundSignals(Guesses):
     """What ABC finds to be equal in a circuit of two files."""
 
     def guesses(self) -> Iterator[Guess]:
-        """Nodes, if the files have as many latches, and those of the next steps with them, where
-        nothing bad is left."""
+        """Yields nodes, if the files have as many latches, and those of the next steps with them,
+        where nothing bad is left."""
         # ABC moves no registers where there are none.
         ways = [*[0] * (self.counts[0] == self.counts[1]),
                 max(AHEAD)] if self.circuit.latches else []
@@ -107,8 +107,8 @@ class FoundSignals(Guesses):
                 yield Found(fewer if is_less else classes, self.solver, self.given["is_taken"])
 
     def united(self, nodes: Nodes, commands: str) -> list[int]:
-        """What stands for each node, from the first latch on, in the circuit that commands of ABC
-        leave."""
+        """Returns what stands for each node, from the first latch on, in the circuit that commands
+        of ABC leave."""
         with Folder(self.solver.above) as folder:
             with folder.make("nodes.aig") as out:
                 out.write(machine(nodes))

@@ -19,7 +19,7 @@ class Printer:
 
     def __init__(self, job: Job, evidence: Evidence | None) -> None:
         self.job, self.evidence = job, evidence
-        self.options, self.source, self.board = job.options, job.source, job.board
+        self.options, self.source, self.board = job.options, job.problem.source, job.board
         # The last line that was printed, and what prints the run that was found.
         self.last: str | None = None
         self.run = RunPrinter(job, self)

@@ -27,7 +27,7 @@ class RunPrinter:
 
     def __init__(self, job: Job, printer: Printer) -> None:
         self.job, self.printer, self.problem = job, printer, job.problem
-        self.source, self.options = job.source, job.options
+        self.source, self.options = job.problem.source, job.options
         # The run, once it is printed.
         self.trace: Witness | None = None
 

@@ -26,12 +26,12 @@ PLAIN = re.compile(r"(?![ilb][0-9]+(:|$))[!#-<>-\[\]-~]+")
 
 
 def word(name: str) -> str:
-    """A name as one word, which is no place."""
+    """Returns a name as one word, which is no place."""
     return name if PLAIN.fullmatch(name) else json.dumps(name)
 
 
 def number(bits: Sequence[str]) -> str:
-    """A number of bits, the lowest first."""
+    """Returns a number of bits, the lowest first."""
     if len(bits) == 1 or set(bits) == {"x"}:
         return bits[0].replace("x", "-")
     if "x" in bits:
@@ -55,32 +55,32 @@ class Signals:
         self.hidden: set[str] = set()
 
     def find_buses(self, letter: str, count: int) -> dict[str, list[int]]:
-        """The places of the bits of each word of one kind, whose name is a plain word."""
+        """Returns the places of the bits of each word of one kind, whose name is a plain word."""
         own = [encoded(self.names.get(f"{letter}{i}", "")) for i in range(count)]
         found = {decoded(name): places for name, places in words(own).items()}
         return {name: places for name, places in found.items()
                 if PLAIN.fullmatch(name) and self.is_single(name, letter, places)}
 
     def is_single(self, name: str, letter: str, places: Iterable[int]) -> bool:
-        """Whether no other input or latch has the name of a word or of one of its bits."""
+        """Returns whether no other input or latch has the name of a word or of one of its bits."""
         return self.times[name] == 0 and all(self.times[self.names[f"{letter}{i}"]] == 1
                                              for i in places)
 
     def signal(self, place: str) -> str:
-        """How an input or a latch is printed."""
+        """Returns how an input or a latch is printed."""
         name = self.names.get(place)
         if name is None:
             return place
         return word(name) if self.times[name] == 1 else f"{place}:{json.dumps(name)}"
 
     def place(self, letter: str, position: int) -> str:
-        """How an output or a bad state property is printed."""
+        """Returns how an output or a bad state property is printed."""
         place = f"{letter}{position}"
         return " ".join([place, *(word(self.names[place]) for _ in range(place in self.names))])
 
     def values(self, letter: str, values: Sequence[str],
                places: set[int] | None = None) -> list[str]:
-        """The values of inputs or latches: of all, or of those at these places."""
+        """Returns the values of inputs or latches: of all, or of those at these places."""
         shown = []
         for name, own in grouped(len(values), self.buses[letter]):
             if f"{letter}{own[0]}" not in self.hidden and (places is None
@@ -92,8 +92,8 @@ class Signals:
 
     def lines(self, trace: Witness,
               latches: set[int], changes: Mapping[int, Sequence[str]]) -> Iterator[str]:
-        """The lines of a run: the values of these latches at first, and for each step the inputs,
-        and what else changed, behind a bar."""
+        """Yields the lines of a run: the values of these latches at first, and for each step the
+        inputs, and what else changed, behind a bar."""
         yield spaced("start:", *self.values("l", trace.start, latches))
         steps, count = [], len(trace.steps[0])
         is_short = len(grouped(count, self.buses["i"])) <= MOST
@@ -110,7 +110,8 @@ def spaced(*words: str) -> str:
 
 
 def folded(steps: Iterable[str]) -> Iterator[str]:
-    """A line for each step, or for several that are equal; of many lines the first and the last."""
+    """Yields a line for each step, or for several that are equal; of many lines the first and the
+    last."""
     lines, t = [], 0
     for text, own in itertools.groupby(steps):
         count = len(list(own))

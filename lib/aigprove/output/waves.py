@@ -18,8 +18,8 @@ PATH = re.compile(rb"((?:[A-Za-z_][A-Za-z0-9_$]*\.)+)(.+)", re.DOTALL)
 
 
 def words(names: Sequence[bytes]) -> Words:
-    """The places of the bits of each word among names, the lowest bit first: `d[0]`, `d[1]` and so
-    on, at least two, each once, where nothing else is named `d`."""
+    """Returns the places of the bits of each word among names, the lowest bit first: `d[0]`, `d[1]`
+    and so on, at least two, each once, where nothing else is named `d`."""
     found, times = collections.defaultdict[bytes, dict[int, int]](dict), collections.Counter(names)
     for i, name in enumerate(names):
         bit = BIT.fullmatch(name)
@@ -33,15 +33,15 @@ def words(names: Sequence[bytes]) -> Words:
 
 
 def grouped(count: int, found: Mapping[T, Sequence[int]]) -> list[tuple[T | None, Sequence[int]]]:
-    """The name and the places of each of these words, where its lowest bit is, and no name and the
-    place of what is in none."""
+    """Returns the name and the places of each of these words, where its lowest bit is, and no name
+    and the place of what is in none."""
     starts = {places[0]: (name, places) for name, places in found.items()}
     inner = {i for places in found.values() for i in places[1:]}
     return [starts.get(i, (None, [i])) for i in range(count) if i not in inner]
 
 
 def reference(name: bytes) -> str:
-    """A name as VCD has it: an identifier, or one that is escaped, of printable bytes."""
+    """Returns a name as VCD has it: an identifier, or one that is escaped, of printable bytes."""
     if SIMPLE_NAME.fullmatch(name):
         return name.decode()
     return "\\" + "".join(chr(byte) if 33 <= byte <= 126 and byte != ord("%") else f"%{byte:02X}"
@@ -49,7 +49,7 @@ def reference(name: bytes) -> str:
 
 
 def code(number: int) -> str:
-    """The identifier code of a signal, of the printable characters from ! on."""
+    """Returns the identifier code of a signal, of the printable characters from ! on."""
     digits = chr(33 + number % 94)
     while number >= 94:
         number = number // 94 - 1
@@ -66,20 +66,20 @@ class Variable:
         self.scopes, self.name = (path[1].decode().split(".")[:-1], path[2]) if path else ([], name)
 
     def declared(self) -> str:
-        """Its declaration."""
+        """Returns its declaration."""
         width = len(self.literals)
         bits = f" [{width - 1}:0]" if width > 1 else ""
         return f"$var wire {width} {self.code} {reference(self.name)}{bits} $end"
 
     def change(self, values: Values) -> str:
-        """The line that says its value in a step."""
+        """Returns the line that says its value in a step."""
         bits = "".join(values[literal] for literal in reversed(self.literals))
         return bits + self.code if len(bits) == 1 else f"b{bits} {self.code}"
 
 
 def variables(circuit: Circuit) -> Iterator[tuple[str, list[Variable]]]:
-    """The variables of each kind: its words, each in the place of its lowest bit, and its other
-    signals."""
+    """Yields the variables of each kind: its words, each in the place of its lowest bit, and its
+    other signals."""
     numbers = itertools.count()
     for letter, group in itertools.groupby(circuit.signals(), key=lambda signal: signal[0]):
         literals = [literal for _, _, literal in group]
@@ -90,8 +90,8 @@ def variables(circuit: Circuit) -> Iterator[tuple[str, list[Variable]]]:
 
 
 def declarations(made: Iterable[Variable]) -> Iterator[str]:
-    """The declarations of variables that stand in the order of their scopes, which are opened and
-    closed between them."""
+    """Yields the declarations of variables that stand in the order of their scopes, which are
+    opened and closed between them."""
     opened: list[str] = []
     for it in made:
         pairs = list(zip(opened, it.scopes))
@@ -105,7 +105,7 @@ def declarations(made: Iterable[Variable]) -> Iterator[str]:
 
 def dump(circuit: Circuit, state: Sequence[str],
          inputs: Sequence[Sequence[str]], loop: int | None = None) -> Iterator[str]:
-    """The lines of the value change dump.
+    """Yields the lines of the value change dump.
 
     Of a run that comes again and again from a step on, the signal `loop` is 1 from there on."""
     made = list(variables(circuit))

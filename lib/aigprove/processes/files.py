@@ -32,8 +32,8 @@ class Limited:
 
 
 def sealed(path: str, limit: int | None = None) -> Sealed:
-    """A sealed copy of a file, or of what gzip packed there: of a regular file or a pipe, with so
-    many nodes at most."""
+    """Returns a sealed copy of a file, or of what gzip packed there: of a regular file or a pipe,
+    with so many nodes at most."""
     mode, most = os.stat(path).st_mode, NODE * max(limit or LIMIT, LIMIT)
     if stat.S_ISCHR(mode) or stat.S_ISBLK(mode):
         raise Fault(f"{path} is a device")

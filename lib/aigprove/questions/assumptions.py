@@ -27,11 +27,7 @@ class Possible(Target):
     name = "possible.aag"
 
     def __init__(self, source: Target, checker: Checker) -> None:
-        self.source, self.file = source, checker.made("possible", source.asked)
-
-    @property
-    def asked(self) -> Sealed:
-        return self.file
+        self.source, self.asked = source, checker.made("possible", source.asked)
 
     def circuit(self) -> Circuit:
         return self.source.circuit()

@@ -38,19 +38,15 @@ class BadStates(Target):
                  given: Sequence[Sealed] | None = None) -> None:
         design = design or options.design
         self.given = InputFile(options.files, design, above, checker, self.stem, given)
-        self.path, self.name, self.file = options.files[0], self.given.name, self.given.file
+        self.path, self.name, self.asked = options.files[0], self.given.name, self.given.file
         # The outputs of a design with covers alone are no bad states.
         is_blif, own = BLIF in self.given.kinds, self.given.design
         self.is_old = is_old(self.given.line) and (not own or is_blif)
         if own and not is_blif and not (own.assertions or self.has_later(design.later)):
             raise Fault(f"{self.path}: {own.top} has no assertion")
         if self.is_old:
-            self.name, self.file = "bads.aag", checker.made("bads", self.file)
+            self.name, self.asked = "bads.aag", checker.made("bads", self.asked)
         self.replay: Replay | None = None
-
-    @property
-    def asked(self) -> Sealed:
-        return self.file
 
     def circuit(self) -> Circuit:
         return self.given.circuit()

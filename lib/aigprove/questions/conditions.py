@@ -33,22 +33,23 @@ class Condition:
 
 
 def of_both(witness: Sealed) -> dict[str, Query]:
-    """What is asked of a file and a witness circuit, by the conditions."""
+    """Returns what is asked of a file and a witness circuit, by the conditions."""
     return {name: Condition(witness, name) for name in CONDITIONS}
 
 
 def questions(*form: str) -> dict[str, Query]:
-    """What is asked of a machine whose property has to be inductive, by clauses of this form."""
+    """Returns what is asked of a machine whose property has to be inductive, by clauses of this
+    form."""
     return {"base": Question("query", 0, form), "step": Question("window", 0, form)}
 
 
 def is_named(witness: Sealed) -> bool:
-    """Whether names say which leaves stand for the file's."""
+    """Returns whether names say which leaves stand for the file's."""
     return LINE.search(witness.data()) is not None
 
 
-def told(broken: Iterable[str]) -> list[str]:
-    """The line of the conditions that aren't met, if there are such."""
+def line_of_unmet(broken: Iterable[str]) -> list[str]:
+    """Returns the line of the conditions that aren't met, if there are such."""
     return [f"it doesn't meet the conditions: {', '.join(broken)}"] if broken else []
 
 
@@ -67,7 +68,7 @@ def with_open_resets(circuit: Circuit, starts: bool) -> None:
 
 
 def leaves(circuit: Circuit) -> dict[int, tuple[str, int]]:
-    """The places of the inputs and latches, by their literals."""
+    """Returns the places of the inputs and latches, by their literals."""
     lists = [("i", circuit.inputs), ("l", circuit.latches)]
     return {literal: (letter, i)
             for letter, literals in lists for i, literal in enumerate(literals)}

@@ -5,7 +5,6 @@ liveness assertion of a design is a justice property of a file of its own: a fai
 fails."""
 from __future__ import annotations
 
-import functools
 from collections.abc import Iterable, Iterator, Mapping, Sequence
 from typing import TYPE_CHECKING
 
@@ -34,15 +33,11 @@ class Justices(Target):
     letter, stems, option = "j", ("justices", "justice"), "justice"
 
     def __init__(self, given: InputFile) -> None:
-        self.given, self.path, self.name = given, given.path, given.name
+        self.given, self.path, self.name, self.asked = given, given.path, given.name, given.file
         design = given.design
         if design and not (design.has_lives and design.assertions):
             raise Fault(f"{self.path}: {design.top} has no liveness assertion that can be asked "
                         "about")
-
-    @property
-    def asked(self) -> Sealed:
-        return self.given.file
 
     def circuit(self) -> Circuit:
         return self.given.circuit()
@@ -89,14 +84,8 @@ class Justice(Target):
         if number >= self.given.header().justice:
             raise Fault(f"{self.path}: no such justice property")
 
-    @functools.cached_property
-    def made(self) -> Sealed:
-        """The file that aigedit makes."""
+    def make(self) -> Sealed:
         return self.given.checker.made(self.command, self.given.file, self.number)
-
-    @property
-    def asked(self) -> Sealed:
-        return self.made
 
     def circuit(self) -> Circuit:
         return self.given.circuit()

@@ -3,7 +3,6 @@
 aigedit makes a file of it, and what is shown of that is told of the whole file."""
 from __future__ import annotations
 
-import functools
 from collections.abc import Iterable, Iterator, Sequence
 from typing import TYPE_CHECKING
 
@@ -34,14 +33,8 @@ class Property(Target):
         self.path, self.name = whole.path, f"property-{number}.aag"
         self.stem = f"{whole.stems[1]}-{number}"
 
-    @functools.cached_property
-    def made(self) -> Sealed:
-        """The file that aigedit makes."""
+    def make(self) -> Sealed:
         return self.whole.given.checker.made(self.command, self.whole.asked, self.number)
-
-    @property
-    def asked(self) -> Sealed:
-        return self.made
 
     def circuit(self) -> Circuit:
         return self.whole.circuit()
@@ -79,11 +72,7 @@ class FileAbove(Target):
 
     def __init__(self, whole: BadStates | Justices, folder: str) -> None:
         self.whole, self.path, self.name = whole, whole.path, folder + whole.name
-        self.stem = whole.stems[0]
-
-    @property
-    def asked(self) -> Sealed:
-        return self.whole.asked
+        self.stem, self.asked = whole.stems[0], whole.asked
 
     def circuit(self) -> Circuit:
         return self.whole.circuit()

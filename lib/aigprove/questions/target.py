@@ -1,6 +1,7 @@
 """What is asked about: a file, and what aigcheck can show of it."""
 from __future__ import annotations
 
+import functools
 from collections.abc import Iterable, Iterator, Mapping, Sequence
 from typing import TYPE_CHECKING
 
@@ -46,9 +47,13 @@ class Target:
     # circuit that simulates it.
     counts, can_be_simulated = False, True
 
-    @property
+    @functools.cached_property
     def asked(self) -> Sealed:
-        """The file."""
+        """The file, which is made once it is needed, unless it is given."""
+        return self.make()
+
+    def make(self) -> Sealed:
+        """Makes the file."""
         raise NotImplementedError
 
     def circuit(self) -> Circuit:
