@@ -13,7 +13,7 @@ sys.path.insert(0, str(TOP / "lib"))
 sys.dont_write_bytecode = True
 
 from aigprove import VERSION
-from aigprove.options.parser import ABOUT as ABOUT_AIGPROVE, ENDS, make_parser
+from aigprove.options import parser
 
 ABOUT = {
     "aigtool": "converts AIGER files and prints clauses",
@@ -54,15 +54,15 @@ def of_lists(program, text):
 
 def of_parser():
     """The page of aigprove, by the words that it takes."""
-    made, options = make_parser(), []
+    made, options = parser.make_parser(), []
     for action in made._actions:
         if action.help != argparse.SUPPRESS:
             names, value = ", ".join(action.option_strings) or action.metavar, action.metavar or "|".join(action.choices or [])
             options += item(f"{names} {value}" if action.option_strings and value else names, action.help)
-    about = re.sub(r"\n  (\w+(?:, \w+)*) +(.*)", r"\n.br\n.B \1\n\2", plain(ABOUT_AIGPROVE)).replace("\nAn engine", "\n.br\nAn engine")
+    about = re.sub(r"\n  (\w+(?:, \w+)*) +(.*)", r"\n.br\n.B \1\n\2", plain(parser.about())).replace("\nAn engine", "\n.br\nAn engine")
     about = about.replace("\n\n", "\n.PP\n")
     return [*head("aigprove"), ".B aigprove", ".I FILE .. [TOP] [OPTION ..]", ".SH DESCRIPTION", about.strip(), ".SH OPTIONS", *options,
-            ".SH EXIT STATUS", plain(ENDS).strip()]
+            ".SH EXIT STATUS", plain(parser.ends()).strip()]
 
 
 def main():

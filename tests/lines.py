@@ -109,6 +109,9 @@ def sources():
     for path in [*sorted(MODULES.rglob("*.py")), TOP / "bin" / PACKAGE]:
         texts = in_module(ast.parse(path.read_text()), path.name in WORDED)
         found[f"{PACKAGE}/{path.relative_to(MODULES) if path.is_relative_to(MODULES) else path.name}"].update(dict.fromkeys(map(spelled, texts), 1))
+    # Texts that the package prints, or writes into files, stand in files of their own, too.
+    for path in [*MODULES.rglob("*.txt"), *MODULES.rglob("*.sh")]:
+        found[f"{PACKAGE}/{path.relative_to(MODULES)}"].update([spelled(path.read_text())])
     return {place: {text: count for text, count in texts.items() if text.replace("{}", "")} for place, texts in found.items()}
 
 

@@ -4,12 +4,9 @@ What is believed of a run aigcheck says."""
 from __future__ import annotations
 
 from collections.abc import Iterable, Iterator, Mapping, Sequence
-from typing import TYPE_CHECKING
 
 from aigprove.circuits.aiger import Circuit
-
-if TYPE_CHECKING:
-    from aigprove.circuits.witness import Witness
+from aigprove.circuits.witness import Witness
 
 # By the places of values the trials that are without them.
 LeftOut = Mapping[tuple[int, int], int]
@@ -77,3 +74,12 @@ def trials(circuit: Circuit, trace: Witness,
     for bad in bads:
         shown &= values.true(circuit.bads[bad])
     return shown
+
+
+def reached(circuit: Circuit, start: str, steps: Sequence[str]) -> Witness | None:
+    """Returns the witness of the first bad state that a run reaches; None if it reaches none."""
+    for t, values in enumerate(run(circuit, start, steps)):
+        for position, literal in enumerate(circuit.bads):
+            if values[literal] == "1":
+                return Witness(position, start, list(steps[:t + 1]))
+    return None

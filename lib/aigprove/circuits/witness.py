@@ -6,8 +6,7 @@ import re
 from collections.abc import Sequence
 from dataclasses import dataclass
 
-from aigprove.circuits import simulation
-from aigprove.circuits.aiger import Circuit, Fault, Header, Lines
+from aigprove.circuits.aiger import Fault, Header, Lines
 
 
 @dataclass(frozen=True)
@@ -73,12 +72,3 @@ def read(lines: Lines, latches: int, inputs: int) -> Witness:
 def read_for(data: bytes, header: Header) -> Witness:
     """Returns the first witness of a text, for a file with this header."""
     return read(Lines(data, "WITNESS"), header.latches, header.inputs)
-
-
-def reached(circuit: Circuit, start: str, steps: Sequence[str]) -> Witness | None:
-    """Returns the witness of the first bad state that a run reaches; None if it reaches none."""
-    for t, values in enumerate(simulation.run(circuit, start, steps)):
-        for position, literal in enumerate(circuit.bads):
-            if values[literal] == "1":
-                return Witness(position, start, list(steps[:t + 1]))
-    return None

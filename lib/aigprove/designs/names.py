@@ -11,15 +11,13 @@ from __future__ import annotations
 import collections
 import re
 from collections.abc import Iterator, Mapping, Sequence
-from typing import TYPE_CHECKING, NamedTuple
+from typing import NamedTuple
 
 from aigprove.circuits.aiger import Fault, encoded
 from aigprove.designs.front_ends import DECLARED, DECLARED_LATER, REFUSED, WARNED
 from aigprove.designs.rtlil import INTERFACE, check_names, modules_of, source_of
 from aigprove.designs.texts import Text
-
-if TYPE_CHECKING:
-    from aigprove.designs.yosys import Yosys
+from aigprove.designs.yosys import Yosys
 
 # A node of a syntax tree, as yosys prints it.
 NODE = re.compile(r"^( *)AST_(\w+) <(.*):(\d+)\.\d+-\d+\.\d+> \[0x[0-9a-f]+\]"

@@ -2,10 +2,10 @@
 from __future__ import annotations
 
 import functools
-import os
 import re
 from collections.abc import Container, Iterable, Iterator, Mapping, Sequence
 
+from aigprove import data
 from aigprove.circuits.aiger import Fault
 from aigprove.designs import rtlil, scripts
 from aigprove.designs.front_ends import (AGAIN, ASSERT, COVER, FAIR, FRONTS, LIVE, LOOKING, REFUSED,
@@ -48,9 +48,7 @@ class ReadDesign:
         self.yosys.put("defines.v",
                        "".join(f"`define {name} {value}\n" for name, value in options.define))
         for name in scripts.MAPS:
-            with open(os.path.join(os.path.dirname(__file__), f"{name}.v"),
-                      encoding="utf-8") as file:
-                self.yosys.put(f"aigprove_{name}.v", file.read())
+            self.yosys.put(f"aigprove_{name}.v", data.text(f"designs/{name}.v"))
         self.yosys.put("aigprove_cover.v", scripts.COVERED)
         if self.reset:
             self.put_reset()

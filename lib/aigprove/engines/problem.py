@@ -5,10 +5,9 @@ import functools
 import re
 from collections.abc import Sequence
 
-from aigprove.circuits import witness
 from aigprove.circuits.aiger import Circuit, Fault
 from aigprove.circuits.normalised import NormalisedModel
-from aigprove.circuits.simulation import SIMULATED
+from aigprove.circuits.simulation import SIMULATED, reached
 from aigprove.circuits.witness import Witness
 from aigprove.options.options import Options
 from aigprove.processes.sealed import Sealed
@@ -58,4 +57,4 @@ class Problem:
             if checker.holds(self.claimed(trace)):
                 return trace
         is_short = len(steps) * len(self.circuit.gates) < SIMULATED
-        return witness.reached(self.circuit, start, steps) if is_short else None
+        return reached(self.circuit, start, steps) if is_short else None

@@ -7,8 +7,8 @@ from __future__ import annotations
 import functools
 from collections.abc import Mapping, Sequence
 
-from aigprove.circuits import witness
 from aigprove.circuits.aiger import Circuit
+from aigprove.circuits.simulation import reached
 from aigprove.circuits.witness import Witness
 from aigprove.engines.abc import Abc
 from aigprove.engines.answers import CountedRounds
@@ -50,7 +50,7 @@ class CountingProblem(Problem):
         return self.source.circuit()
 
     def reached(self, checker: Checker, start: str, steps: Sequence[str]) -> Witness | None:
-        return witness.reached(self.circuit, start, steps)
+        return reached(self.circuit, start, steps)
 
 
 class Counting(Job):

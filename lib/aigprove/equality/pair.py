@@ -4,7 +4,6 @@ from __future__ import annotations
 import copy
 import dataclasses
 from collections.abc import Iterator, Mapping, Sequence
-from typing import TYPE_CHECKING
 
 from aigprove.circuits import simulation
 from aigprove.circuits.aiger import Circuit, Fault, Header, Symbols, decoded
@@ -16,15 +15,13 @@ from aigprove.equality import matched
 from aigprove.equality.matched import APART, BY_NAME, Starts
 from aigprove.equality.mismatch import SIGNALS, mismatch
 from aigprove.options.options import DesignOptions, Options
+from aigprove.output.evidence import Evidence
 from aigprove.output.signals import Signals, word
 from aigprove.processes.background import BackgroundCall
 from aigprove.processes.sealed import Sealed
 from aigprove.questions.checker import MISFIT, Checker, Claim, Question
 from aigprove.questions.input_file import InputFile
 from aigprove.questions.target import Target
-
-if TYPE_CHECKING:
-    from aigprove.output.evidence import Evidence
 
 # What constraints say: compared runs meet those of both files, or those of the first alone, or they
 # are compared, too; and what stands then behind lines.

@@ -6,6 +6,7 @@ import sys
 from typing import IO, NoReturn
 
 from aigprove import VERSION
+from aigprove.data import text
 from aigprove.equality.matched import STARTS
 from aigprove.equality.pair import CONSTRAINTS
 from aigprove.options import words
@@ -34,44 +35,6 @@ NAMED = [
     *((program, "PROGRAM", f"another program {program} than the one that is found")
       for program in ["abc", *PROGRAMS]),
 ]
-ABOUT = """\
-Asks whether the machine of an AIGER file can reach a bad state, and believes no engine: aigcheck \
-checks each answer (safe, bad, equal, fair)
-before it is printed, and each step that is shown on the way. It doesn't check what is printed \
-about yosys and what yosys says, about how
-signals are matched, about registers that are open at the start, or about the conditions that a \
-wrong certificate doesn't meet.
-
-Engines look for an answer side by side, and the first that is checked is printed:
-  bmc3, pdr commands of ABC, whose counterexamples become witnesses and whose invariant becomes a \
-certificate
-  bounded   asks a SAT solver one question about all steps up to 1, 4, 16 and so on, and cadical \
-about one step after the other in it
-  steps     asks it about step 0, 1 and so on
-  windows   asks it about K + 2 steps from any state, bad at the last alone (k-induction)
-  registers guesses which registers of two files are always equal, and asks it whether a step \
-keeps them so
-  scorr     has ABC find which nodes of two files are always equal, which becomes a certificate
-  rounds    asks pdr whether 1, 2, 4 and so on rounds of a justice property can end
-An engine that isn't installed, lies or breaks is told of on standard error, and changes nothing \
-else.
-
-With --equal outputs and bad states of FILE and OTHER are compared, on all runs of both that have \
-the same inputs, and that the
-constraints of both allow (--constraints): each step by aigcheck equal, and all at once by an \
-answer about their miter, which aigedit
-makes. Inputs, outputs or bad states are matched by name where both files have the same names for \
-all of them, and else by position, which is
-said; two designs have to have the same ones, and their registers with open start begin alike \
-(--starts). Justice and fairness are not looked
-at.
-"""
-ENDS = """\
-Exit status 20: no bad state at any step, or no difference. 10: a bad state is reached, or a \
-difference. 0: neither was shown, or no
-run meets the assumptions. 1: something went wrong. 2: wrong words. With --aiger it is 0 where it \
-would be 20, 10 or 0.
-"""
 FILES = "a file in AIGER form, text or binary, which may be packed by gzip; or the files of a " \
     "design, in order: Verilog (.v, .sv), an .il file or a script (.ys) of yosys, or BLIF " \
     "(.blif); - is standard input"
@@ -181,9 +144,19 @@ def add_limits(it: argparse.ArgumentParser) -> None:
     it.add_argument("--engine", metavar="NAMES", type=words.engines, help=ASKED)
 
 
+def about() -> str:
+    """Returns what the help says before the words."""
+    return text("options/about.txt")
+
+
+def ends() -> str:
+    """Returns what the help says of exit statuses."""
+    return text("options/ends.txt")
+
+
 def make_parser() -> Parser:
     """Returns the parser of the command line."""
-    it = Parser("aigprove", description=ABOUT, epilog=ENDS,
+    it = Parser("aigprove", description=about(), epilog=ends(),
                 formatter_class=argparse.RawDescriptionHelpFormatter)
     add_designs(it)
     add_questions(it)

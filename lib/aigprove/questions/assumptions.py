@@ -4,17 +4,14 @@ That is a run that meets them up to some step, or a step from which on none does
 from __future__ import annotations
 
 import time
-from typing import TYPE_CHECKING
 
 from aigprove.circuits.aiger import Circuit
 from aigprove.circuits.witness import read_for
+from aigprove.output.evidence import Evidence
 from aigprove.processes.sealed import Sealed
 from aigprove.questions.checker import Checker, Claim, Question, header_of
 from aigprove.questions.solver import Solver
 from aigprove.questions.target import CLAIMS, Target
-
-if TYPE_CHECKING:
-    from aigprove.output.evidence import Evidence
 
 # How many seconds further steps are looked at, and up to which at most, if no line is about later
 # ones.

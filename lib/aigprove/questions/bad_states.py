@@ -10,6 +10,7 @@ from aigprove.circuits.aiger import Circuit, Fault, Header, Lines, decoded
 from aigprove.circuits.witness import Witness
 from aigprove.designs.front_ends import BLIF, COVER, LIVE
 from aigprove.options.options import DesignOptions, Options
+from aigprove.output.evidence import Evidence
 from aigprove.output.report import PropertyAnswer
 from aigprove.output.signals import Signals, word
 from aigprove.processes.sealed import Sealed
@@ -20,7 +21,6 @@ from aigprove.questions.target import Target
 if TYPE_CHECKING:
     from aigprove.designs.replay import Replay
     from aigprove.designs.verilog import Design
-    from aigprove.output.evidence import Evidence
 
 # How many registers that are uninitialised are named.
 NAMED_OPEN = 8

@@ -4,17 +4,14 @@ That is a fair lasso of a justice property of no literals, which the file is giv
 from __future__ import annotations
 
 import time
-from typing import TYPE_CHECKING
 
 from aigprove.circuits.aiger import Header
 from aigprove.circuits.witness import read_for
+from aigprove.output.evidence import Evidence
 from aigprove.processes.sealed import Sealed
 from aigprove.questions.checker import PAIRS, Checker, Claim, Question, header_of
 from aigprove.questions.justice import Justice, span
 from aigprove.questions.solver import Solver
-
-if TYPE_CHECKING:
-    from aigprove.output.evidence import Evidence
 
 # The file's name among what is kept; for how many seconds lassos are looked for, and of how many
 # steps at most.

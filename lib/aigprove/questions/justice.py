@@ -6,13 +6,13 @@ fails."""
 from __future__ import annotations
 
 from collections.abc import Iterable, Iterator, Mapping, Sequence
-from typing import TYPE_CHECKING
 
 from aigprove.circuits.aiger import Circuit, Fault, decoded
 from aigprove.circuits.witness import Witness
 from aigprove.designs.front_ends import FAIR, LIVE
 from aigprove.options.options import Options
 from aigprove.output import waves
+from aigprove.output.evidence import Evidence
 from aigprove.output.report import PropertyAnswer
 from aigprove.output.signals import Signals
 from aigprove.processes.sealed import Sealed
@@ -20,9 +20,6 @@ from aigprove.questions.bad_states import of_kind
 from aigprove.questions.checker import Checker, Claim, Question
 from aigprove.questions.input_file import InputFile, counted
 from aigprove.questions.target import Target, changes_of
-
-if TYPE_CHECKING:
-    from aigprove.output.evidence import Evidence
 
 
 class Justices(Target):

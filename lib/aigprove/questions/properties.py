@@ -4,18 +4,15 @@ aigedit makes a file of it, and what is shown of that is told of the whole file.
 from __future__ import annotations
 
 from collections.abc import Iterable, Iterator, Sequence
-from typing import TYPE_CHECKING
 
 from aigprove.circuits.aiger import Circuit
 from aigprove.circuits.witness import Witness
+from aigprove.output.evidence import Evidence
 from aigprove.output.signals import Signals
 from aigprove.processes.sealed import Sealed
 from aigprove.questions.bad_states import BadStates
 from aigprove.questions.justice import Justices
 from aigprove.questions.target import Target
-
-if TYPE_CHECKING:
-    from aigprove.output.evidence import Evidence
 
 
 class Property(Target):

@@ -3,19 +3,16 @@ from __future__ import annotations
 
 import functools
 from collections.abc import Iterable, Iterator, Mapping, Sequence
-from typing import TYPE_CHECKING
 
 from aigprove.circuits import simulation
 from aigprove.circuits.aiger import Circuit, Header
 from aigprove.circuits.simulation import SIMULATED
 from aigprove.circuits.witness import Witness
 from aigprove.output import waves
+from aigprove.output.evidence import Evidence
 from aigprove.output.signals import Signals
 from aigprove.processes.sealed import Sealed
 from aigprove.questions.checker import Checker, Claim, Question
-
-if TYPE_CHECKING:
-    from aigprove.output.evidence import Evidence
 
 # By the command of a question: what aigcheck prints if that has no solution, and by which words.
 CLAIMS = {
