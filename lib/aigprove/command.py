@@ -1,6 +1,4 @@
 """The command line of aigprove."""
-from __future__ import annotations
-
 import contextlib
 import dataclasses
 import os

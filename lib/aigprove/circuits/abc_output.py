@@ -1,6 +1,4 @@
 """What ABC writes: counterexamples (write_cex), and invariants in PLA form."""
-from __future__ import annotations
-
 import re
 from collections.abc import Mapping, Sequence
 

@@ -1,11 +1,12 @@
 """Files in AIGER form, text and binary: what they say, as lists of literals."""
 from __future__ import annotations
 
+import contextlib
 import copy
 import itertools
 import re
 from collections.abc import Iterable, Iterator, Sequence
-from typing import Any
+from typing import Any, cast
 
 KINDS = {"i": "inputs", "l": "latches", "o": "outputs", "b": "bads", "c": "constraints"}
 LIMIT = 1 << 24
@@ -77,21 +78,18 @@ class Lines:
         """Returns a line of one number."""
         return self.numbers(1, 1)[0]
 
-    def rows(self, count: int, width: int) -> list[list[int]]:
+    def rows(self, count: int, width: int) -> list[tuple[int, ...]]:
         """Returns so many lines of so many numbers each, which are read at once."""
         *lines, rest = self.data[self.place:].split(b"\n", count)
         words = b" ".join(lines).split(b" ") if lines else []
-        if len(lines) < count or any(line.count(b" ") != width - 1
-                                     for line in lines) or not all(map(bytes.isdigit, words)):
-            return [self.numbers(width, width) for _ in range(count)]
-        try:
-            numbers = iter(map(int, words))
-            found = [list(row) for row in zip(*[numbers] * width)]
-        except ValueError:
-            # A number has more digits than any that a file may have.
-            return [self.numbers(width, width) for _ in range(count)]
-        self.place = len(self.data) - len(rest)
-        return found
+        are_rows = len(lines) == count and all(line.count(b" ") == width - 1 for line in lines)
+        if are_rows and all(map(bytes.isdigit, words)):
+            # A number may have more digits than any that a file has.
+            with contextlib.suppress(ValueError):
+                found = list(zip(*[iter(list(map(int, words)))] * width))
+                self.place = len(self.data) - len(rest)
+                return found
+        return [tuple(self.numbers(width, width)) for _ in range(count)]
 
     def skip_differences(self, count: int) -> None:
         """Passes over so many of the numbers that `differences` reads."""
@@ -184,8 +182,7 @@ class Circuit:
         self.justice = [[lines.number() for _ in range(size)] for size in sizes]
         self.fairness = [lines.number() for _ in range(header.fairness)]
         if header.is_text:
-            self.gates: list[Gate] = [
-                (gate, left, right) for gate, left, right in lines.rows(header.gates, 3)]
+            self.gates = cast(list[Gate], lines.rows(header.gates, 3))
         else:
             self.gates = binary_gates(lines, header.gates, first_gate)
         self.names = names(lines)
@@ -207,8 +204,8 @@ class Circuit:
     def put_in_order(self) -> None:
         """Puts each gate behind those that it stands on, where that isn't so."""
         leaves = [0, *self.inputs, *self.latches]
-        places = {literal: i for i, literal in enumerate(
-            itertools.chain(leaves, (gate for gate, _, _ in self.gates)))}
+        nodes = itertools.chain(leaves, (gate for gate, _, _ in self.gates))
+        places = {literal: i for i, literal in enumerate(nodes)}
         if all(places[left & ~1] < i > places[right & ~1]
                for i, (_, left, right) in enumerate(self.gates, len(leaves))):
             return

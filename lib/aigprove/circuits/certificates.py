@@ -1,8 +1,6 @@
 """Certificates in the form of the hardware model checking competition: a witness circuit, whose
 first inputs and latches are the file's, in order, with their resets and next values, and whose
 property is inductive and implies the file's. Nothing here is believed."""
-from __future__ import annotations
-
 from collections.abc import Callable, Iterable, Iterator, Mapping
 
 from aigprove.circuits.aiger import Circuit, symbols, text_form
@@ -23,6 +21,7 @@ class Frame:
         return dict([*zip(circuit.inputs, self.inputs), *zip(circuit.latches, self.state)])
 
     def literals(self) -> list[int]:
+        """Returns the literals of its latches."""
         return [self.kept, *self.state, *self.inputs]
 
 
@@ -41,6 +40,7 @@ class WitnessCircuit:
         self.bads = list(map(self.literal, circuit.bads))
 
     def literals(self, leaves: Mapping[int, int]) -> Callable[[int], int]:
+        """Returns the literals of the file's nodes over some leaves, as a function."""
         return literals_of(self.circuit, self.gates, leaves)
 
     def equal(self, left: int, right: int) -> int:
@@ -48,6 +48,7 @@ class WitnessCircuit:
         return self.gates.choice(left, right, right ^ 1)
 
     def implies(self, left: int, right: int) -> int:
+        """Returns the literal that is false where the first is true without the other."""
         return self.gates.both(left, right ^ 1) ^ 1
 
     def starts(self, state: Iterable[int]) -> int:

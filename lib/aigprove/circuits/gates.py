@@ -1,6 +1,4 @@
 """And gates over literals, and circuits of them."""
-from __future__ import annotations
-
 from collections.abc import Callable, Iterable, Mapping, Sequence
 
 from aigprove.circuits.aiger import Circuit, differences
@@ -49,6 +47,7 @@ class Gates:
         return literals[0]
 
     def choice(self, condition: int, left: int, right: int) -> int:
+        """Returns the literal of one of two, by a condition."""
         return self.both(self.both(condition, left) ^ 1, self.both(condition ^ 1, right) ^ 1) ^ 1
 
 

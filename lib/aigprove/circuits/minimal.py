@@ -1,6 +1,4 @@
 """Runs without the values that don't matter."""
-from __future__ import annotations
-
 import dataclasses
 import time
 from collections.abc import Callable, Iterable, Sequence

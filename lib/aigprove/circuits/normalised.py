@@ -6,8 +6,6 @@ while the latch `began` is 0; and the latch `broken` is 1 once a constraint didn
 without latches gets one that is spare. Inputs and latches are named by their places in the file
 (i0, l0), and the value of an open latch l0 is the input r0, so that what an engine says is told by
 names."""
-from __future__ import annotations
-
 from collections.abc import Sequence
 
 from aigprove.circuits.abc_output import BEGAN, BROKEN, SPARE, Named, excluded_by
@@ -39,8 +37,8 @@ class NormalisedModel:
                      for bad in (bads if is_apart else [self.gates.any(bads)])]
         self.nexts = [literal(next) ^ (reset == 1)
                       for next, reset in zip(circuit.nexts, circuit.resets)]
-        self.nexts += [1] * bool(
-            self.opened) + [self.gates.both(broken ^ 1, allowed) ^ 1] * bool(circuit.constraints)
+        self.nexts += [1] * bool(self.opened)
+        self.nexts += [self.gates.both(broken ^ 1, allowed) ^ 1] * bool(circuit.constraints)
         self.nexts = self.nexts or [0]
 
     def leaves(self) -> dict[int, int]:
@@ -49,14 +47,15 @@ class NormalisedModel:
         free = {i: 2 * (len(self.circuit.inputs) + 1 + n) for n, i in enumerate(self.opened)}
         for i, (literal, reset) in enumerate(zip(self.circuit.latches, self.circuit.resets)):
             place = self.places[f"l{i}"]
-            leaves[literal] = self.gates.choice(self.places[BEGAN], place,
-                                                free[i]) if i in free else place ^ (reset == 1)
+            leaves[literal] = place ^ (reset == 1)
+            if i in free:
+                leaves[literal] = self.gates.choice(self.places[BEGAN], place, free[i])
         return leaves
 
     def binary(self) -> bytes:
         """Returns its binary form."""
-        names = [f"{letter}{i} {name}\n" for letter, own in [
-            ("i", self.inputs), ("l", self.latches)] for i, name in enumerate(own)]
+        lists = [("i", self.inputs), ("l", self.latches)]
+        names = [f"{letter}{i} {name}\n" for letter, own in lists for i, name in enumerate(own)]
         return binary(len(self.inputs), self.nexts, self.bads, self.gates) + "".join(names).encode()
 
     def run(self, text: str) -> tuple[str, list[str]]:

@@ -1,8 +1,6 @@
 """Runs of a circuit, simulated in three values, and many trials of one at once.
 
 What is believed of a run aigcheck says."""
-from __future__ import annotations
-
 from collections.abc import Iterable, Iterator, Mapping, Sequence
 
 from aigprove.circuits.aiger import Circuit
@@ -24,6 +22,7 @@ class Values:
         self.known = [0, every, *[0] * (2 * len(rows))]
 
     def place(self, literal: int) -> int:
+        """Returns the place of a literal among the values that are known."""
         return self.places[literal & ~1] ^ literal & 1
 
     def true(self, literal: int) -> int:
@@ -59,8 +58,8 @@ def run(circuit: Circuit, start: Sequence[str], steps: Iterable[Sequence[str]],
             known[2:first] = [known[place] for place in nexts]
         known[first:first + 2 * len(circuit.inputs)] = sides(t, given, left_out, every)
         for gate, left, right in gates:
-            known[gate], known[gate + 1] = known[left] & known[
-                right], known[left ^ 1] | known[right ^ 1]
+            known[gate] = known[left] & known[right]
+            known[gate + 1] = known[left ^ 1] | known[right ^ 1]
         yield values
 
 

@@ -1,6 +1,4 @@
 """Which files are of designs, what reads them, and the cells of what is asked about them."""
-from __future__ import annotations
-
 import re
 from typing import NamedTuple
 

@@ -116,9 +116,9 @@ class Module:
 
     def without(self, name: str) -> str:
         """Drops a net that nothing uses, and gives the text then."""
-        self.text = re.sub(
-            rf"(?:\n  attribute [^\n]*)*\n  wire (?:[^\n]* )?{re.escape(name)}(?=\n)",
-            "", self.text, count=1)
+        own = re.escape(name)
+        wire = re.compile(rf"(?:\n  attribute [^\n]*)*\n  wire (?:[^\n]* )?{own}(?=\n)")
+        self.text = wire.sub("", self.text, count=1)
         return self.text
 
     def is_output(self, port: str) -> bool:
@@ -166,8 +166,8 @@ def use_of(node: Node, above: list[Node]) -> Use:
     so does the left side of an assignment."""
     kinds = [it.kind for it in above]
     inner = kinds[len(kinds) - kinds[::-1].index("ASSIGN"):] if "ASSIGN" in kinds else None
-    is_left = inner is not None and set(inner) <= {"CONCAT"} and is_first(
-        [*above, node], len(above) - len(inner) - 1)
+    is_left = inner is not None and set(inner) <= {"CONCAT"} \
+        and is_first([*above, node], len(above) - len(inner) - 1)
     is_port = any(pair in zip(kinds, kinds[1:])
                   for pair in [("CELL", "ARGUMENT"), ("PRIMITIVE", "ARGUMENT")])
     return Use(node.place, is_left or is_port and node.line > 0, bool(GENERATED & set(kinds)))
@@ -192,8 +192,8 @@ class Trees:
                 self.uses[module, node.name].append(use_of(node, above))
             if node.kind == "RANGE" and above[-1].kind == "IDENTIFIER":
                 self.selected.add((module, above[-1].name))
-            if node.kind == "CELL" and above[-1].kind == "CELLARRAY" and not ends_with_0(
-                    above[-1].children[0]):
+            is_array = node.kind == "CELL" and above[-1].kind == "CELLARRAY"
+            if is_array and not ends_with_0(above[-1].children[0]):
                 self.arrays.add((module, node.name[1:]))
 
     def check_net(self, module: str, name: str) -> None:
@@ -326,8 +326,8 @@ class Names:
             self.declared[base][net.name] = "wire "
             return
         # A path may begin with the name of the module in which it stands.
-        own = name.partition(".")[2] if name.startswith(
-            f"{base}.") and not list(hierarchy.found(kind, name)) else name
+        is_own = name.startswith(f"{base}.") and not list(hierarchy.found(kind, name))
+        own = name.partition(".")[2] if is_own else name
         try:
             line = f"(* hierconn *) wire {hierarchy.signal(kind, own)}"
         except Fault as why:

@@ -1,6 +1,4 @@
 """Netlists as yosys writes them in JSON: which signals have which names, drivers and clocks."""
-from __future__ import annotations
-
 import collections
 import re
 from collections.abc import Iterator, Mapping
@@ -61,6 +59,7 @@ def aliases(module: Json) -> dict[str, list[str]]:
 
 
 def cells_like(module: Json, kind: str) -> list[Json]:
+    """Returns the cells of a type."""
     return [cell for cell in module["cells"].values() if cell["type"] == kind]
 
 
@@ -77,6 +76,7 @@ def constants(module: Json) -> set[str | None]:
 
 
 def outputs(cell: Json) -> list[Bit]:
+    """Returns the bits that a cell drives."""
     return [bit for port, bits in cell["connections"].items()
             if cell["port_directions"].get(port) == "output" for bit in bits]
 
@@ -139,8 +139,8 @@ def stored(module: Json) -> Iterator[tuple[str, str]]:
     ranked = sorted(module["netnames"].items(),
                     key=lambda it: (not it[1]["hide_name"], -it[0].count(".")))
     nets = {tuple(net["bits"]): (name, net["hide_name"]) for name, net in ranked}
-    named = {(bit,): name for bit, name in bits_of(module)} | {
-        bits: name for bits, (name, is_hidden) in nets.items() if not is_hidden}
+    named: dict[tuple[Bit, ...], str] = {(bit,): name for bit, name in bits_of(module)}
+    named |= {bits: name for bits, (name, is_hidden) in nets.items() if not is_hidden}
     held = {tuple(cell["connections"]["Q"])
             for cell in module["cells"].values() if "Q" in cell["connections"]}
     taken = set(module["netnames"])

@@ -1,6 +1,4 @@
 """Reading a design by yosys, as far as its top module has it, and what isn't asked about in it."""
-from __future__ import annotations
-
 import functools
 import re
 from collections.abc import Container, Iterable, Iterator, Mapping, Sequence
@@ -70,8 +68,8 @@ class ReadDesign:
         # these.
         better = max(reversed(others),
                      key=lambda name: asked_below(every, rtlil.reached(every, name)), default="")
-        if not asked_below(every, below) and asked_below(
-                every, rtlil.reached(every, better)) and WORD.fullmatch(better):
+        is_better = asked_below(every, rtlil.reached(every, better)) and WORD.fullmatch(better)
+        if not asked_below(every, below) and is_better:
             others = [name for name in rtlil.roots_of(every) if name != better]
             self.read_on()
             every, below = self.read_below(f"-top {better}")
@@ -93,14 +91,15 @@ class ReadDesign:
             fronts.insert(0, VERILOG.format(file=f"{made}/defines.v", include="", words=""))
         # A box whose outputs are free is an empty module.
         fronts += [f"setattr -mod -unset blackbox ={name}" for name in self.options.black_box]
-        return (scripts.LOOK if way in (LOOKING, AGAIN) else scripts.READ).format(
-            fronts="\n".join(fronts), top=top, made=made, is_ready=is_ready)
+        script = scripts.LOOK if way in (LOOKING, AGAIN) else scripts.READ
+        return script.format(fronts="\n".join(fronts), top=top, made=made, is_ready=is_ready)
 
     def edges(self) -> str:
         """Returns the lines that make registers of any clocks such of all steps, where that is
         wanted."""
-        return scripts.EDGES.format(
-            reset=self.resetting(scripts.AT_EDGES)) if self.options.multiclock else ""
+        if not self.options.multiclock:
+            return ""
+        return scripts.EDGES.format(reset=self.resetting(scripts.AT_EDGES))
 
     def read_below(self, top: str) -> tuple[list[Cell], set[str]]:
         """Begins to read the design as far as a top module has it, and gives all its cells, and the
@@ -109,8 +108,8 @@ class ReadDesign:
             text = self.declared(top)
         except Fault as why:
             told = self.yosys.told(str(why))
-            raise type(why)("; ".join(
-                [told, *(hint for said, hint in HINTS.items() if said in told)])) from None
+            hints = (hint for said, hint in HINTS.items() if said in told)
+            raise type(why)("; ".join([told, *hints])) from None
         if place := rtlil.item_of_x(text):
             raise Fault(f"{self.yosys.told(place)}: an item of this case is x or z")
         modules = modules_of(text)

@@ -82,6 +82,7 @@ class Module:
         return -1 if net.get("upto") else index - int(net.get("offset", 0))
 
     def width(self, name: str) -> int:
+        """Returns how many bits a signal has."""
         return len(self.module["netnames"][name]["bits"])
 
     def read_by(self, name: str) -> list[Read]:
@@ -172,9 +173,9 @@ class Replay:
     def other(self, design: Design, failed: Sequence[str], name: str) -> str | None:
         """Returns what fails where yosys runs the design, if that isn't the assertion of this
         name."""
-        return None if any(
-            it.startswith(name)
-            for it in failed) else f"{design.yosys.told(' and '.join(failed)) or 'none'} fails"
+        if any(it.startswith(name) for it in failed):
+            return None
+        return f"{design.yosys.told(' and '.join(failed)) or 'none'} fails"
 
     def differing(self, circuit: Circuit,
                   held: Mapping[str, str], words: Mapping[str, str]) -> str | None:
@@ -187,8 +188,8 @@ class Replay:
                 name, found = words[f"l{i}"], BIT.fullmatch(held[f"l{i}"])
                 if t < len(self.values) and name in self.values[t]:
                     own = self.values[t][name].rjust(self.module.width(name), "0")
-                    place = self.module.place(name,
-                                              int(found[2])) if found and found[1] == name else 0
+                    is_bit = found and found[1] == name
+                    place = self.module.place(name, int(found[2])) if found and is_bit else 0
                     if 0 <= place < len(own) and own[-1 - place] not in ("x", values[latch]):
                         found_value = own[-1 - place]
                         return f"{held[f'l{i}']} is {found_value} in step {t}, " \

@@ -1,6 +1,4 @@
 """Designs in yosys's own language (RTLIL): what is asked, and which names it uses."""
-from __future__ import annotations
-
 import collections
 import re
 from collections.abc import Callable, Iterator, Mapping, Sequence
@@ -27,8 +25,8 @@ X = re.compile(r" ([1-9][0-9]*)'([01x-]*x[01x-]*)(?= |$)", re.MULTILINE)
 # target, and their bits.
 CONSTANT = re.compile(r"\n  connect (\S.*) [0-9]+'([01]+)(?=\n)")
 PROCESS = re.compile(r"\n  process (.*?)\n  end", re.DOTALL)
-ASSIGNED, UPDATED = re.compile(
-    r"\n    assign (\S+) [0-9]+'([01]+)(?=\n)"), re.compile(r"update (.*) (\S+)")
+ASSIGNED = re.compile(r"\n    assign (\S+) [0-9]+'([01]+)(?=\n)")
+UPDATED = re.compile(r"update (.*) (\S+)")
 ONCE = re.compile(r"\n    sync always((?:\n      update .*)*)\n    sync init(?![^\n])")
 PARTS = re.compile(r"(\\\S+)(?: \[([0-9]+)(?::([0-9]+))?\])?")
 INTERFACE = "\nattribute \\is_interface 1\n"
@@ -90,10 +88,9 @@ def check_names(modules: Mapping[str, str]) -> None:
             for end in (found.start() for found in re.finditer(r"\.", dotted)):
                 other = modules.get(cells.get(dotted[:end], ""), "")
                 # What an interface has is declared by paths.
-                if INTERFACE not in other and re.search(
-                        rf"\n  (?:wire|memory|cell) [^\n]*\\{re.escape(dotted[end + 1:])}(?=[\n.])",
-                        other):
-                    own, cell, inner = dotted[1:], dotted[1:end], dotted[end + 1:]
+                own, cell, inner = dotted[1:], dotted[1:end], dotted[end + 1:]
+                there = re.compile(rf"\n  (?:wire|memory|cell) [^\n]*\\{re.escape(inner)}(?=[\n.])")
+                if INTERFACE not in other and there.search(other):
                     raise Fault(f"{base_of(name)} has a net of the name {own}, and an instance "
                                 f"{cell} with {inner}: rename one of them")
 
@@ -108,10 +105,10 @@ def check_constants(modules: Mapping[str, str]) -> None:
                 values[bit].add(value[i:i + 1] or value)
         for net in dict.fromkeys(net for (net, _), own in values.items() if len(own) > 1):
             # What only initial blocks write and nothing reads may be the variable of loops.
-            if len(re.findall(rf" {re.escape(net)}(?=[ \n])",
-                              text)) > 1 + sum(net in target.split() for target, _ in given):
-                raise Fault(
-                    f"{base_of(name)}: {net[1:]} has several drivers, or several initial values")
+            uses = len(re.findall(rf" {re.escape(net)}(?=[ \n])", text))
+            if uses > 1 + sum(net in target.split() for target, _ in given):
+                raise Fault(f"{base_of(name)}: {net[1:]} has several drivers, or several initial "
+                            "values")
 
 
 def constants_in(text: str) -> Iterator[tuple[str, str]]:
@@ -129,11 +126,12 @@ def bits_in(target: str, text: str) -> Iterator[tuple[str, int]]:
     """Yields the bits of nets in the target of an assignment in the text of a module, from the
     lowest on: pairs of a name and a place."""
     for net, first, last in reversed(PARTS.findall(target)):
-        width = None if first else re.search(
-            rf"\n  wire (?:width ([0-9]+) )?[^\n]*{re.escape(net)}(?=\n)", text)
-        ends = [int(last or first), int(first)] if first else [0, int(width[1] or 1) - 1
-                                                               if width else 0]
-        yield from ((net, i) for i in range(ends[0], ends[1] + 1))
+        low, high = int(last or first or 0), int(first or 0)
+        if not first:
+            wire = re.compile(rf"\n  wire (?:width ([0-9]+) )?[^\n]*{re.escape(net)}(?=\n)")
+            width = wire.search(text)
+            high = int(width[1] or 1) - 1 if width else 0
+        yield from ((net, i) for i in range(low, high + 1))
 
 
 def base_of(name: str) -> str:
@@ -193,8 +191,8 @@ def numbered(module: str, pattern: re.Pattern[str], behind: str) -> str:
         numbers[scope, inner].add(int(number))
     for (scope, inner), own in numbers.items():
         for i, number in enumerate(sorted(own)):
-            names[scope, str(number), inner] = ("" if scope else "\\") + scope + behind + (
-                f"[{i}]" if len(own) > 1 else "")
+            index = f"[{i}]" if len(own) > 1 else ""
+            names[scope, str(number), inner] = ("" if scope else "\\") + scope + behind + index
     changed = pattern.sub(lambda found: names[found.groups()], module)
     return changed if len(set(changed.split())) == len(set(module.split())) else module
 

@@ -1,7 +1,5 @@
 """Texts in Verilog once their macros are expanded: which modules they have, and what yosys reads
 otherwise than Verilog has it, without a word. That is refused, by its place."""
-from __future__ import annotations
-
 import collections
 import re
 from collections.abc import Iterable, Iterator, Mapping
@@ -63,6 +61,7 @@ class Text:
         return f"{paths[-1]}:{lines[-1]}"
 
     def fault(self, offset: int, why: str) -> Fault:
+        """Returns the fault that is at an offset."""
         return Fault(f"{self.place(offset)}: {why}")
 
     def check(self, below: Iterable[str]) -> None:
@@ -139,8 +138,8 @@ class Text:
         lines of these."""
 
         def blank(found: re.Match[bytes]) -> bytes:
-            lines[found[1].decode()] += b" ".join(
-                self.text[found.start(2):found.end(2)].split()) + b" "
+            own = self.text[found.start(2):found.end(2)]
+            lines[found[1].decode()] += b" ".join(own.split()) + b" "
             return re.sub(rb"[^\n]", b" ", found[0])
 
         parts, last = [], 0

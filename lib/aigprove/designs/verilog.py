@@ -4,8 +4,6 @@ assumptions constraints.
 The machine is the design that was meant. What nothing says is open: a register without an initial
 value at first, and in each step a net or a bit without a driver and each x. So each gets a free
 value, an input of the file, before a pass of yosys may choose one."""
-from __future__ import annotations
-
 import functools
 import os
 import re
@@ -109,15 +107,15 @@ class Design(ReadDesign):
         equal, size = self.options.is_compared, os.path.getsize(self.yosys.place("free.il"))
         fewer = "" if equal and size <= BRIEF else FEWER
         mapped = netlist.types(module) - scripts.SIMPLE
-        by_maps = scripts.BY_MAPS.format(
-            further=scripts.FURTHER * (not mapped <= scripts.MAPPED)) if mapped or reset else ""
+        further = scripts.FURTHER * (not mapped <= scripts.MAPPED)
+        by_maps = scripts.BY_MAPS.format(further=further) if mapped or reset else ""
         words = {"top": self.top, "renames": self.renames,
                  "clock": clock, "reset": reset, "by_maps": by_maps, "fewer": fewer}
         words["spare"] = self.spare()
         # A small design whose runs may be shown is made ready to be simulated in the same run,
         # where yosys can: another takes longer.
-        self.is_replayed = not equal and size <= SMALL and self.is_run(
-            scripts.WRITE + "design -reset\n" + scripts.REPLAY, words)
+        both = scripts.WRITE + "design -reset\n" + scripts.REPLAY
+        self.is_replayed = not equal and size <= SMALL and self.is_run(both, words)
         if not self.is_replayed:
             self.yosys.run(scripts.WRITE, **words)
         cells = self.yosys.modules("asserted.json").get(self.top, {"cells": {}})["cells"]
@@ -166,8 +164,8 @@ class Design(ReadDesign):
         if not found or data is None:
             return ""
         first, last = map(int, found.groups())
-        return " ".join(escaped(line.strip()) for line in data.decode(
-            "utf-8", "replace").split("\n")[first - 1:last])[:SPELLED]
+        own = data.decode("utf-8", "replace").split("\n")[first - 1:last]
+        return " ".join(escaped(line.strip()) for line in own)[:SPELLED]
 
     def run(self, trace: Witness) -> tuple[list[str], str]:
         """Has yosys run a witness on the design: the names of the assertions that fail in the last

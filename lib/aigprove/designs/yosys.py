@@ -87,9 +87,11 @@ class Yosys:
         return f"{folder}/{name}"
 
     def place(self, name: str) -> str:
+        """Returns the path of a file in the folder."""
         return os.path.join(self.folder, name)
 
     def put(self, name: str, text: str) -> None:
+        """Puts a text into the folder."""
         with open(self.place(name), "w", encoding="utf-8", errors="surrogateescape") as out:
             out.write(text)
 
@@ -101,6 +103,7 @@ class Yosys:
                                for i in range(0, len(commands), LONGEST)))
 
     def text(self, name: str) -> str:
+        """Returns the text of a file in the folder."""
         with open(self.place(name), encoding="utf-8", errors="surrogateescape") as file:
             return file.read()
 

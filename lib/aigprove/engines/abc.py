@@ -1,6 +1,4 @@
 """ABC, whose counterexamples become witnesses and whose invariants become certificates."""
-from __future__ import annotations
-
 import shutil
 from collections.abc import Iterable
 

@@ -1,6 +1,4 @@
 """What engines hand in."""
-from __future__ import annotations
-
 from collections.abc import Sequence
 from dataclasses import dataclass
 

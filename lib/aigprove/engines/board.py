@@ -1,6 +1,4 @@
 """What the engines of a portfolio, each in its thread, tell it and one another."""
-from __future__ import annotations
-
 import queue
 import time
 

@@ -1,6 +1,4 @@
 """Certificates, and invariants that ABC wrote: what aigcheck is asked about them."""
-from __future__ import annotations
-
 from collections.abc import Callable, Iterator, Mapping
 
 from aigprove.circuits import simulation

@@ -1,6 +1,4 @@
 """What somebody else found, and the command line gives: a run, or a certificate."""
-from __future__ import annotations
-
 from aigprove.circuits.abc_output import of_abc
 from aigprove.circuits.aiger import Fault
 from aigprove.engines.job import Job

@@ -1,6 +1,4 @@
 """One question of a command line, whose answer is printed."""
-from __future__ import annotations
-
 from aigprove.circuits.aiger import Fault
 from aigprove.engines.answers import FAILED, OPEN, SAFE, UNSAFE
 from aigprove.engines.board import Board, Clock

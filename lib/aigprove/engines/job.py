@@ -1,6 +1,4 @@
 """What an engine is given: a problem, a task for its programs, and a board for its answers."""
-from __future__ import annotations
-
 import contextlib
 from collections.abc import Sequence
 

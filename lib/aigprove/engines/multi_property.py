@@ -1,8 +1,6 @@
 """ABC on several properties of a file at once.
 
 One run of pdr finds runs to those that are reached, and one invariant for all others."""
-from __future__ import annotations
-
 from collections.abc import Iterable
 
 from aigprove.circuits.abc_output import parted

@@ -1,6 +1,4 @@
 """Engines side by side: the first checked answer wins."""
-from __future__ import annotations
-
 import functools
 import queue
 import threading

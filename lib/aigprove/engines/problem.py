@@ -1,6 +1,4 @@
 """What the engines of a portfolio are asked."""
-from __future__ import annotations
-
 import functools
 import re
 from collections.abc import Sequence

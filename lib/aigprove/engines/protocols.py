@@ -1,6 +1,4 @@
 """What a portfolio expects of what it runs, of what is asked about, and of what hears answers."""
-from __future__ import annotations
-
 from collections.abc import Mapping, Sequence
 from typing import Protocol
 

@@ -2,8 +2,6 @@
 
 In a round each literal of a justice property and of fairness is true; if N of them can't end, for
 some N, no run shows the property."""
-from __future__ import annotations
-
 import functools
 from collections.abc import Mapping, Sequence
 

@@ -2,8 +2,6 @@
 
 At most as many as there are programs that may run are asked about at once: for two seconds each,
 then for eight, and so on."""
-from __future__ import annotations
-
 import concurrent.futures
 import math
 import threading

@@ -3,8 +3,6 @@
 ABC's pdr is asked about all properties that are open, each for a second at most, then for four, and
 so on; beside its first run the other engines are asked about the whole file. What is left then is
 asked about alone."""
-from __future__ import annotations
-
 import concurrent.futures
 import math
 import threading

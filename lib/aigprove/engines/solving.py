@@ -1,6 +1,4 @@
 """Engines that ask a SAT solver about the file."""
-from __future__ import annotations
-
 import collections
 import itertools
 import time

@@ -44,8 +44,8 @@ class Classes:
         self.nodes, self.rng = nodes, rng
         self.rows: list[list[int]] = []
         self.listed: list[list[int]] | None = None
-        self.every = every or (
-            1 << (1 << max(FEWEST, min(MOST, BITS // nodes.all().stop)).bit_length() - 1)) - 1
+        runs = max(FEWEST, min(MOST, BITS // nodes.all().stop))
+        self.every = every or (1 << (1 << runs.bit_length() - 1)) - 1
 
     def drawn(self, literals: Sequence[int]) -> list[int]:
         """Returns random values for literals."""

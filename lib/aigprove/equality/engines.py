@@ -2,8 +2,6 @@
 
 A program of its own guesses it, so that it doesn't wait for what other engines compute. Nothing
 here is believed."""
-from __future__ import annotations
-
 import json
 import threading
 

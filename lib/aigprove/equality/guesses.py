@@ -1,8 +1,6 @@
 """Registers that correspond: a program that guesses, by names and by random runs, which latches,
 and other nodes, of a circuit of two files are always equal, or each other's inverse, and prints a
 certificate that says so. Nothing here is believed."""
-from __future__ import annotations
-
 import copy
 import gc
 import itertools
@@ -308,6 +306,7 @@ class Guesses:
         return stop, nodes
 
     def kept(self, guess: Guess) -> list[Pair] | None:
+        """Returns the pairs of a guess that a step keeps; None if something differs."""
         try:
             return guess.pairs()
         except Different:
@@ -335,4 +334,5 @@ def run(make: type[Guesses], folder: str, asked: str) -> None:
 
 
 def main(folder: str, asked: str) -> None:
+    """Prints the certificate of a guess."""
     run(Guesses, folder, asked)

@@ -1,7 +1,5 @@
 """Which of the pairs of nodes that a certificate says to be equal may be left out, as they follow
 from the others by unit propagation. Nothing here is believed."""
-from __future__ import annotations
-
 from collections.abc import Sequence
 
 from aigprove.circuits.gates import Gates

@@ -2,8 +2,6 @@
 
 It goes on with what it learned. Another solver is asked about all at once. Nothing here is
 believed."""
-from __future__ import annotations
-
 from collections.abc import Iterable, Sequence
 
 from aigprove.circuits.aiger import Fault

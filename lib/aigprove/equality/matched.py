@@ -1,8 +1,6 @@
 """What is matched of two files that are compared: registers with open start by order or by name, as
 aigedit and aigcheck do themselves; and of designs inputs, outputs and bad literals by their names,
 for which the second one's file is put in order."""
-from __future__ import annotations
-
 import collections
 import copy
 import re
@@ -49,8 +47,8 @@ class Starts:
         self.partners = partners(way, *circuits) if circuits else {}
         self.way = way if self.partners else APART
         self.suffix = SUFFIXES[self.way]
-        self.said = f", registers with open start alike {way.replace('-', ' ')}" * (
-            self.way != APART)
+        said = f", registers with open start alike {way.replace('-', ' ')}"
+        self.said = said * (self.way != APART)
 
 
 def alone(way: str, paths: Sequence[str], first: Circuit, other: Circuit) -> Iterator[str]:

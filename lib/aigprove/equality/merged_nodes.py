@@ -1,6 +1,4 @@
 """What nodes are where those of a class are one. Nothing here is believed."""
-from __future__ import annotations
-
 from collections.abc import Sequence
 
 from aigprove.circuits.gates import Gates

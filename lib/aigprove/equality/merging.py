@@ -2,8 +2,6 @@
 units say to be equal, and the clauses that say so: each follows from those before it by unit
 propagation, and so a proof may begin with them. A program that asks cadical so. Nothing here is
 believed."""
-from __future__ import annotations
-
 import gc
 import itertools
 import os
@@ -38,8 +36,8 @@ def definitions(lines: Sequence[bytes]) -> tuple[list[Gate], list[tuple[int, ...
     while first < stop and is_short(lines[stop - 1]):
         stop -= 1
     numbers = list(map(int, b" ".join(lines[first + 2:stop:3]).split()))
-    inverted = [-number for number in numbers]
-    gates = list(zip(numbers[::4], inverted[1::4], inverted[2::4]))
+    one, two = ([-number for number in numbers[place::4]] for place in (1, 2))
+    gates = list(zip(numbers[::4], one, two))
     if 3 * len(gates) != stop - first or any(numbers[3::4]):
         raise ValueError("there are other clauses than those of gates")
     return gates, [tuple(map(int, line.split()[:-1])) for line in [*lines[:first], *lines[stop:]]]
@@ -51,6 +49,7 @@ def clauses_of(variable: int, left: int, right: int) -> list[list[int]]:
 
 
 def text_of(clause: Iterable[int]) -> bytes:
+    """Returns the text of a clause."""
     return b"%s 0\n" % b" ".join(b"%d" % it for it in clause)
 
 

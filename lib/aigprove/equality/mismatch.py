@@ -1,6 +1,4 @@
 """Why two files can't be compared: what one of them has and the other hasn't."""
-from __future__ import annotations
-
 from collections.abc import Container, Sequence
 
 from aigprove.circuits.aiger import Circuit, decoded

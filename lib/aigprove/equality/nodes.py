@@ -33,6 +33,7 @@ class Nodes:
         return range(0, self.gates.next, 2)
 
     def leaves(self) -> list[int]:
+        """Returns the literals of the inputs and latches."""
         return [*self.inputs, *self.latches]
 
     def first(self, values: Iterable[int], every: int) -> list[int]:
@@ -125,8 +126,8 @@ class Nodes:
                 # One of two that aren't to be true together.
                 below = choices.pop()
                 if all(values.get(it >> 1) != it ^ 1 for it in below):
-                    left.append(
-                        rng.choice([it for it in below if it >> 1 not in values] or below) ^ 1)
+                    open_ones = [it for it in below if it >> 1 not in values]
+                    left.append(rng.choice(open_ones or below) ^ 1)
             elif (it := left.pop()) >> 1 not in values:
                 values[it >> 1] = it
                 below = self.gates.rows[(it - first) >> 1][1:] if it >= first else []

@@ -1,6 +1,4 @@
 """Two files that are compared: their miter, which aigedit makes, is asked about."""
-from __future__ import annotations
-
 import copy
 import dataclasses
 from collections.abc import Iterator, Mapping, Sequence

@@ -1,8 +1,6 @@
 """Signals that correspond: a program that has ABC find which nodes of a circuit of two files are
 always equal, or each other's inverse, and prints a certificate that says so. Nothing here is
 believed."""
-from __future__ import annotations
-
 import collections
 import random
 from collections.abc import Iterable, Iterator
@@ -119,4 +117,5 @@ class FoundSignals(Guesses):
 
 
 def main(folder: str, asked: str) -> None:
+    """Prints the certificate of what ABC finds to be equal."""
     guesses.run(FoundSignals, folder, asked)

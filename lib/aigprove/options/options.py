@@ -1,6 +1,4 @@
 """What a command line asks for, as it stays from then on."""
-from __future__ import annotations
-
 from dataclasses import dataclass
 
 from aigprove.processes.sealed import Sealed

@@ -1,6 +1,4 @@
 """Commands that ask about each property by itself, on whatever machine."""
-from __future__ import annotations
-
 import os
 import shlex
 from collections.abc import Iterable, Iterator

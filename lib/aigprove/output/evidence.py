@@ -1,6 +1,4 @@
 """What is kept of an answer: files, and a script that shows it again."""
-from __future__ import annotations
-
 import os
 import shlex
 

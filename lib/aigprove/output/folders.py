@@ -2,8 +2,6 @@
 
 That is a folder with the files that were asked about, and for each question a folder with a script;
 one script runs all of them."""
-from __future__ import annotations
-
 import os
 import threading
 from collections.abc import Iterable

@@ -1,8 +1,6 @@
 """What was kept of answers, here before or on another machine.
 
 Each line is believed once aigcheck prints it again, of the file that is asked about now."""
-from __future__ import annotations
-
 import concurrent.futures
 import os
 import re

@@ -1,6 +1,4 @@
 """The printed answers of one question, and what is kept of them."""
-from __future__ import annotations
-
 import sys
 
 from aigprove.circuits import certificates

@@ -1,6 +1,4 @@
 """What became of each property, and how that is printed and written for other programs."""
-from __future__ import annotations
-
 import dataclasses
 import json
 import xml.etree.ElementTree as xml

@@ -5,8 +5,6 @@ A name is printed as it is where it is a plain word, and else as a JSON string, 
 (i0, l0) where another signal has it too; a signal without a name is printed by its place. The bits
 `d[0]` to `d[7]` are printed as `d=8'hff`, in base two where one doesn't matter: x is printed as
 -."""
-from __future__ import annotations
-
 import collections
 import itertools
 import json
@@ -106,6 +104,7 @@ class Signals:
 
 
 def spaced(*words: str) -> str:
+    """Returns words with spaces between."""
     return " ".join(words)
 
 

@@ -1,7 +1,5 @@
 """The table of all properties: what is asked, or gathered, and what is printed and written of
 it."""
-from __future__ import annotations
-
 import concurrent.futures
 import os
 import resource

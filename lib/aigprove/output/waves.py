@@ -1,6 +1,4 @@
 """Runs as value change dumps (VCD, IEEE 1364), which wave viewers such as gtkwave read."""
-from __future__ import annotations
-
 import collections
 import itertools
 import re

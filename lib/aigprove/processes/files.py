@@ -1,7 +1,5 @@
 """Files that were named: what is read is copied in blocks to where nobody can write it, and
 unpacked there, up to a limit."""
-from __future__ import annotations
-
 import gzip
 import os
 import stat
@@ -24,6 +22,7 @@ class Limited:
         self.file, self.path, self.most, self.left = file, path, most, most
 
     def read(self, size: int) -> bytes:
+        """Returns the next bytes, so many at most."""
         data = self.file.read(size)
         self.left -= len(data)
         if self.left < 0:

@@ -1,8 +1,6 @@
 """Whether the constraints of a file can be met at all.
 
 That is a run that meets them up to some step, or a step from which on none does."""
-from __future__ import annotations
-
 import time
 
 from aigprove.circuits.aiger import Circuit

@@ -92,6 +92,7 @@ class BadStates(Target):
         from aigprove.designs.replay import Replay
 
         own, text = design.assertion(trace.bad)
+        self.replay = None
         try:
             replay = self.replay = Replay(design, circuit, trace)
         except Fault as why:

@@ -1,8 +1,6 @@
 """The conditions by which a witness circuit simulates a file, and has an inductive property that
 implies the file's. Which of its inputs and latches stand for the file's its names say, or else
 their order. What is asked about them is aigcheck's; names are told alone."""
-from __future__ import annotations
-
 import re
 from collections.abc import Iterable, Sequence
 from dataclasses import dataclass

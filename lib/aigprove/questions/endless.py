@@ -1,8 +1,6 @@
 """Whether a run without end meets the constraints and the fairness of a file at all.
 
 That is a fair lasso of a justice property of no literals, which the file is given."""
-from __future__ import annotations
-
 import time
 
 from aigprove.circuits.aiger import Header

@@ -1,6 +1,4 @@
 """Files as they were named: their bytes are read once, into memory that nobody can write."""
-from __future__ import annotations
-
 import tempfile
 from collections.abc import Iterator, Sequence
 from typing import TYPE_CHECKING

@@ -3,8 +3,6 @@
 What is asked about is the file that aigedit makes of it, whose bad state ends a fair lasso. A
 liveness assertion of a design is a justice property of a file of its own: a fair run on which it
 fails."""
-from __future__ import annotations
-
 from collections.abc import Iterable, Iterator, Mapping, Sequence
 
 from aigprove.circuits.aiger import Circuit, Fault, decoded

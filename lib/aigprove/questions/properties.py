@@ -1,8 +1,6 @@
 """One bad state property of a file alone.
 
 aigedit makes a file of it, and what is shown of that is told of the whole file."""
-from __future__ import annotations
-
 from collections.abc import Iterable, Iterator, Sequence
 
 from aigprove.circuits.aiger import Circuit
