@@ -89,7 +89,7 @@ def named_rows(text: str, circuit: Circuit) -> list[str]:
 
 def excluded_by(pla: str, places: Mapping[str, int]) -> list[list[int]] | None:
     """Returns the cubes of an invariant in PLA form, as literals, by those of the latches, where
-    the further latches have their fixed values. None where it has no such form, or a name that is
+    the further latches have their fixed values. None if it has no such form, or a name that is
     none of these."""
     names, excluded = None, []
     for words in filter(None, map(str.split, pla.splitlines())):

@@ -202,7 +202,7 @@ class Circuit:
                 f"literal {next(filter(unknown.__contains__, used))} is not defined in {self.what}")
 
     def put_in_order(self) -> None:
-        """Puts each gate behind those that it stands on, where that isn't so."""
+        """Puts each gate behind those that it stands on, if that isn't so."""
         leaves = [0, *self.inputs, *self.latches]
         nodes = itertools.chain(leaves, (gate for gate, _, _ in self.gates))
         places = {literal: i for i, literal in enumerate(nodes)}

@@ -44,7 +44,7 @@ class WitnessCircuit:
         return literals_of(self.circuit, self.gates, leaves)
 
     def equal(self, left: int, right: int) -> int:
-        """Returns the literal that is true where both are equal."""
+        """Returns the literal that is true exactly when both are equal."""
         return self.gates.choice(left, right, right ^ 1)
 
     def implies(self, left: int, right: int) -> int:

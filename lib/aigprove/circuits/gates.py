@@ -52,7 +52,7 @@ class Gates:
 
 
 def binary(inputs: int, nexts: Sequence[int], outputs: Sequence[int], gates: Gates) -> bytes:
-    """Returns the binary form of a machine of so many inputs, whose latches are 0 at first, by
+    """Returns the binary form of a machine of so many inputs, whose latches are 0 initially, by
     literals."""
     count = len(gates.rows)
     header = f"aig {inputs + len(nexts) + count} {inputs} {len(nexts)} {len(outputs)} {count}"

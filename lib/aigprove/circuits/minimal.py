@@ -60,9 +60,9 @@ def simulated(circuit: Circuit, trace: Witness,
 
 def minimal(trace: Witness,
             opened: Iterable[int], holds: Callable[[Witness], bool], seconds: float) -> Witness:
-    """Returns a run with x in the place of as many values of these latches at first, and of inputs,
-    as may be left out: by halves, as long as the run `holds`, where no single one more may be left
-    out, unless the seconds are over before that."""
+    """Returns a run with x in the place of as many values of these latches initially, and of
+    inputs, as may be left out: by halves, as long as the run `holds`, where no single one more may
+    be left out, unless the seconds are over before that."""
     parts, until = [places_of(trace, opened)], time.monotonic() + seconds
     while parts and time.monotonic() < until:
         part = parts.pop()

@@ -1,5 +1,5 @@
-"""The machine of a file as every model checker reads it: all latches 0 at first, outputs that are 1
-in bad states, no constraints.
+"""The machine of a file as every model checker reads it: all latches 0 initially, outputs that are
+1 in bad states, no constraints.
 
 A latch that is 1 at first is inverted; one that is open at first takes an input's value at step 0,
 while the latch `began` is 0; and the latch `broken` is 1 once a constraint didn't hold. A machine
@@ -77,9 +77,9 @@ class NormalisedModel:
     def certificate(self, pla: str, names: Sequence[str] | None = None) -> bytes | None:
         """Returns the text of a certificate: inputs and latches as the circuit has them, and one
         bad state property, the states that an invariant of the plain machine excludes, or one whose
-        latches have these names. None where that isn't one of the machine.
+        latches have these names. None if that isn't one of the machine.
 
-        Where a latch is open at first, the first states aren't among them."""
+        Where a latch is open initially, the first states aren't among them."""
         inputs, resets = len(self.circuit.inputs), self.circuit.resets
         latches = range(2 * (inputs + 1), 2 * (inputs + len(resets) + 1), 2)
         gates = Gates(latches.stop)

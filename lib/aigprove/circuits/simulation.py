@@ -30,7 +30,7 @@ class Values:
         return self.known[self.place(literal)]
 
     def __getitem__(self, literal: int) -> str:
-        """Returns the value of a literal, where there is one trial."""
+        """Returns the value of a literal, if there is one trial."""
         place = self.place(literal)
         return "1" if self.known[place] else "0" if self.known[place ^ 1] else "x"
 

@@ -157,7 +157,7 @@ class Replay:
 
     def changed(self, t: int, names: Iterable[str], at_first: Container[str]) -> list[str]:
         """Returns the signals whose values are others than in the step before; of the first step
-        those that aren't among what is there at first."""
+        those that aren't among what is there initially."""
         return [self.shown(name, t) for name in names
                 if (self.shown(name, t) != self.shown(name, t - 1) if t else name not in at_first)]
 

@@ -15,7 +15,7 @@ READ = LOOK + text(f"{TEMPLATES}/read.ys")
 # memories and asynchronous resets become flat registers of one clock, whose every step is one of
 # it. What is x, and what nothing drives, becomes an input. Equal cells are merged first, as proc
 # makes those that compare with the items of a case, for each bit anew; and whole cells are folded
-# before their bits: where there are many that takes half the time. Of several names of a net the
+# before their bits: if there are many that takes half the time. Of several names of a net the
 # one with most attributes stays. What is asked about is kept: else one assertion would stay of
 # several that say the same.
 FREE = text(f"{TEMPLATES}/free.ys")
@@ -24,7 +24,7 @@ FREE = text(f"{TEMPLATES}/free.ys")
 FLAT = "proc -noopt -norom\nflatten"
 FLAT_FIRST = "flatten\nselect -assert-none a:hierconn\nproc -noopt -norom"
 # Cells whose value is x for some operands, as a bit by an index past all bits, which may be a sum
-# of constants; and the lines that make them total, and those for memories. Where there are none the
+# of constants; and the lines that make them total, and those for memories. If there are none the
 # map isn't read.
 PARTIAL = re.compile(r"\n  cell \$(?:shiftx|div|mod|divfloor|modfloor|eqx|nex) ")
 TOTAL = text(f"{TEMPLATES}/total.ys")
@@ -45,7 +45,7 @@ EDGES = "{reset}clk2fflogic\nchtype -set $eq t:$eqx"
 # While there are gates to be found, a register that is open at first is a cell that no pass looks
 # into.
 WRITE = text(f"{TEMPLATES}/write.ys")
-# How cells become gates: by passes of yosys and maps, of its own where there are cells that those
+# How cells become gates: by passes of yosys and maps, of its own if there are cells that those
 # don't know. Of sums and such there are only the bits that something reads: Verilog has 32 of them
 # beside any number.
 SIMPLE = {f"${name}" for name in "not pos and or xor xnor reduce_and reduce_or reduce_xor "

@@ -2,7 +2,7 @@
 assumptions constraints.
 
 The machine is the design that was meant. What nothing says is open: a register without an initial
-value at first, and in each step a net or a bit without a driver and each x. So each gets a free
+value initially, and in each step a net or a bit without a driver and each x. So each gets a free
 value, an input of the file, before a pass of yosys may choose one."""
 import functools
 import os
@@ -113,7 +113,7 @@ class Design(ReadDesign):
                  "clock": clock, "reset": reset, "by_maps": by_maps, "fewer": fewer}
         words["spare"] = self.spare()
         # A small design whose runs may be shown is made ready to be simulated in the same run,
-        # where yosys can: another takes longer.
+        # if yosys can: another takes longer.
         both = scripts.WRITE + "design -reset\n" + scripts.REPLAY
         self.is_replayed = not equal and size <= SMALL and self.is_run(both, words)
         if not self.is_replayed:
@@ -155,7 +155,7 @@ class Design(ReadDesign):
         return f"{KINDS[self.options.kind]} {self.top}{own} ({place})", self.spelled(place)
 
     def spelled(self, place: str) -> str:
-        """Returns the lines of the design's files at a place, as one, where they are known: what is
+        """Returns the lines of the design's files at a place, as one, if they are known: what is
         counted in a line are signs without macros."""
         path, _, lines = place.rpartition(":")
         found = re.fullmatch(r"([0-9]+)\.[0-9]+-([0-9]+)\.[0-9]+", lines)

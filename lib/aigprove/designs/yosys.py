@@ -174,7 +174,7 @@ class Yosys:
 
     @contextlib.contextmanager
     def alongside(self, script: str, **words: str) -> Iterator[None]:
-        """Runs a script in its own folder beside what is done meanwhile; where that fails, the run
+        """Runs a script in its own folder beside what is done meanwhile; if that fails, the run
         is ended."""
         run = self.begin(script, **words)
         try:
@@ -190,7 +190,7 @@ class Yosys:
 
 
 class Run:
-    """A run of yosys, which is ended where the time is over."""
+    """A run of yosys, which is ended if the time is over."""
 
     def __init__(self, yosys: Yosys, words: Words, **streams: Any) -> None:
         self.yosys, self.out = yosys, tempfile.TemporaryFile()

@@ -25,7 +25,7 @@ BEGUN, DRAWN, FOUND, IDLE = 16, 4, 8, 3
 
 
 def parts_of(own: Sequence[int], values: Sequence[int]) -> list[list[int]]:
-    """Returns members of a class by their values, where several have the same."""
+    """Returns members of a class by their values, if several have the same."""
     parts = collections.defaultdict(list)
     for literal, value in zip(own, values):
         parts[value].append(literal)

@@ -24,7 +24,7 @@ from aigprove.questions.solver import Undecided
 # How aigedit begins the names of latches of the other file.
 OTHER = b"other."
 # How many seconds of cadical's are few: so many, and one for so many gates; and how many conflicts,
-# where there are no more gates than these: of more it takes long to look for nodes inside that are
+# if there are no more gates than these: of more it takes long to look for nodes inside that are
 # equal.
 LEAST, QUICK, FEW, MANY = 1, 1000, 300, 20000
 # For how many steps nodes are looked at ahead of those that there are, at first and then.
@@ -87,7 +87,7 @@ class States:
         return found
 
     def kept(self) -> list[Pair] | None:
-        """Returns these pairs; None where classes were split."""
+        """Returns these pairs; None if classes were split."""
         classes, size, states, proved = self.classes, self.classes.size(), self.classes.pairs(), 0
         nodes, known = self.nodes.merged(classes.merged(self.nodes.leaves(), 1))
         inner, limits = self.inner(nodes), [] if self.is_hard else limits_for(len(nodes.gates.rows))
@@ -258,7 +258,7 @@ class Guesses:
         self.counts: tuple[int, int] = (given["counts"][0], given["counts"][1])
 
     def certificate(self) -> bytes | None:
-        """Returns the certificate of the first guess that a step keeps; None where there is
+        """Returns the certificate of the first guess that a step keeps; None if there is
         none."""
         try:
             for guess in self.guesses():

@@ -41,7 +41,7 @@ def way_by_names(circuits: Iterable[Circuit]) -> str:
 
 class Starts:
     """How registers with open start begin in two circuits; what stands behind the names of
-    commands, and what behind lines. Where no two are matched all are apart."""
+    commands, and what behind lines. If no two are matched all are apart."""
 
     def __init__(self, way: str, *circuits: Circuit) -> None:
         self.partners = partners(way, *circuits) if circuits else {}
@@ -106,7 +106,7 @@ def why_alone(name: bytes | None, known: Mapping[bytes | None, bool]) -> str:
 def order(letter: str, first: Named, other: Named) -> list[int] | None:
     """Returns the places of the second circuit's signals of a kind in the order in which the first
     has their names; as they stand where the counts differ, or some have no name or the same one.
-    None where both haven't the same names."""
+    None if both haven't the same names."""
     ours, theirs = ([it.names.get((letter, i)) for i in range(getattr(it.header, KINDS[letter]))]
                     for it in (first, other))
     if len(ours) != len(theirs) or any(None in names or len(set(names)) < len(names)
@@ -141,7 +141,7 @@ def best(names: Iterable[str]) -> str:
 
 def chosen(designs: Sequence[Mapping[int, Sequence[str]]]) -> list[dict[int, str]]:
     """Returns a name for each register of designs, of which all names are given by their places: of
-    two designs one that both have, where there is such, and else one that no other register of the
+    two designs one that both have, if there is such, and else one that no other register of the
     same has."""
     made: list[dict[int, str]] = [{} for _ in designs]
     if len(designs) == 2:

@@ -170,7 +170,7 @@ class Merging:
 
     def asked(self) -> Iterator[bytes]:
         """Yields a file of cadical's that asks about the literals of the last clause in turn, the
-        last first; nothing where all are false."""
+        last first; nothing if all are false."""
         wanted = dict.fromkeys(it for it in map(self.literal, reversed(self.last)) if it != FALSE)
         if wanted:
             yield b"p inccnf\n-1 0\n"

@@ -29,7 +29,7 @@ PART = 0.9
 
 def machine(nodes: Nodes) -> bytes:
     """Returns a machine in binary form that has some nodes as its outputs, from the first latch on,
-    and whose latches are 0 at first."""
+    and whose latches are 0 initially."""
     if any(nodes.resets):
         return begun(nodes)
     outputs = range(nodes.latches.start, nodes.all().stop, 2)
@@ -37,7 +37,7 @@ def machine(nodes: Nodes) -> bytes:
 
 
 def begun(nodes: Nodes) -> bytes:
-    """Returns the same where latches are 1 at first, or open: the latch behind all others says
+    """Returns the same where latches are 1 initially, or open: the latch behind all others says
     whether the machine has begun, and else an input is an open latch's value."""
     count, latches = len(nodes.inputs), len(nodes.latches)
     opened = [i for i, reset in enumerate(nodes.resets) if reset > 1 and i not in nodes.alike]
@@ -90,8 +90,8 @@ class FoundSignals(Guesses):
 
     def guesses(self) -> Iterator[Guess]:
         """Yields nodes, if the files have as many latches, and those of the next steps with them,
-        where nothing bad is left."""
-        # ABC moves no registers where there are none.
+        if nothing bad is left."""
+        # ABC moves no registers if there are none.
         ways = [*[0] * (self.counts[0] == self.counts[1]),
                 max(AHEAD)] if self.circuit.latches else []
         for steps in ways:

@@ -3,7 +3,7 @@ that no name drives a terminal.
 
 A name is printed as it is where it is a plain word, and else as a JSON string, behind its place
 (i0, l0) where another signal has it too; a signal without a name is printed by its place. The bits
-`d[0]` to `d[7]` are printed as `d=8'hff`, in base two where one doesn't matter: x is printed as
+`d[0]` to `d[7]` are printed as `d=8'hff`, in base two if one doesn't matter: x is printed as
 -."""
 import collections
 import itertools
@@ -90,7 +90,7 @@ class Signals:
 
     def lines(self, trace: Witness,
               latches: set[int], changes: Mapping[int, Sequence[str]]) -> Iterator[str]:
-        """Yields the lines of a run: the values of these latches at first, and for each step the
+        """Yields the lines of a run: the values of these latches initially, and for each step the
         inputs, and what else changed, behind a bar."""
         yield spaced("start:", *self.values("l", trace.start, latches))
         steps, count = [], len(trace.steps[0])

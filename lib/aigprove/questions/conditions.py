@@ -74,7 +74,7 @@ def leaves(circuit: Circuit) -> dict[int, tuple[str, int]]:
 
 def name_shared(circuit: Circuit, file: Circuit, named: Circuit) -> None:
     """Gives the leaves of a witness circuit that stand for the file's the names that these have
-    where they are told."""
+    if they are told."""
     given, found = leaves(file), {place: NAME.fullmatch(name)
                                   for place, name in circuit.names.items()}
     by_name = {place: given.get(int(name[1])) for place, name in found.items() if name}
