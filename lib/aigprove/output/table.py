@@ -1,12 +1,13 @@
 """The table of all properties: what is asked, or gathered, and what is printed and written of
 it."""
 import concurrent.futures
+import functools
 import os
 import resource
 import time
 from collections.abc import Callable, Iterable, Sequence
 
-from aigprove.circuits.aiger import Fault
+from aigprove.circuits.aiger import Circuit, Fault
 from aigprove.circuits.witness import Witness
 from aigprove.designs.front_ends import COVER, LIVE
 from aigprove.engines.answers import FAILED, OPEN, SAFE, UNSAFE
@@ -30,6 +31,8 @@ from aigprove.questions.properties import FileAbove
 from aigprove.questions.solver import Solver
 from aigprove.questions.target import Target
 
+# What is written of a run of a source, whose circuit a function reads.
+Written = Callable[[Target, Witness, Callable[[], Circuit]], Iterable[bytes]]
 STATUS = {"fails": UNSAFE, "holds": SAFE, "undecided": OPEN}
 
 
@@ -183,24 +186,25 @@ class Table:
         if options.vcd:
             self.write_runs(options.vcd, "vcd", dump_of)
 
-    def write_runs(self, folder: str, suffix: str,
-                   call: Callable[[Target, Witness], Iterable[bytes]]) -> None:
+    def write_runs(self, folder: str, suffix: str, call: Written) -> None:
         """Writes a file for each run into a folder."""
         os.makedirs(folder, exist_ok=True)
         for part in self.parts:
+            # It is read once, if it is needed.
+            circuit = functools.cache(part.source.circuit)
             for answer in part.answers:
                 if answer.trace:
                     path = os.path.join(folder, f"{answer.letter}{answer.number}.{suffix}")
-                    write(path, call(part.sources[answer.number], answer.trace))
+                    write(path, call(part.sources[answer.number], answer.trace, circuit))
 
 
-def witness_of(source: Target, trace: Witness) -> Iterable[bytes]:
+def witness_of(source: Target, trace: Witness, _: Callable[[], Circuit]) -> Iterable[bytes]:
     """Returns the text of a run."""
     return [source.of_file(trace).text().encode()]
 
 
-def dump_of(source: Target, trace: Witness) -> Iterable[bytes]:
+def dump_of(source: Target, trace: Witness, read: Callable[[], Circuit]) -> Iterable[bytes]:
     """Returns a value change dump, which yosys makes of a design, if it can."""
-    circuit = source.circuit()
+    circuit = read()
     list(source.lines(Signals(circuit), circuit, trace))
     return (f"{line}\n".encode() for line in source.dump(circuit, trace))
