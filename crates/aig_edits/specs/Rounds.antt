@@ -1,9 +1,11 @@
 -- Part of what is promised.
--- The file whose bad states are rounds of a justice property of one file, printed. (AIGER 1.9,
--- "Properties": justice and fairness. k-liveness.)
+-- The file whose bad states are rounds of a justice property of one file, made and printed. (AIGER
+-- 1.9, "Properties": justice and fairness. k-liveness.)
 use Rattle.std.specs.Prelude.{◌≡◌, ℕ, ◌^◌, ◌<◌, ◌≤◌, ◌↔◌, Bool, false, List, length, map, Option, Result, Ok, Err}
 use Rattle.std.specs.Io.KnownBytes.{Appends}
 use Rattle.aig_circuit.specs.Circuit.{Circuit}
+use Rattle.aig_circuit.specs.View.{lists_circuit}
+use Rattle.aig_circuit.specs.declared.view.CircuitLists.{CircuitLists}
 use Rattle.aig_edit_laws.specs.Shown.{HasWitness}
 use Rattle.aig_format.specs.Circuit.{IsReadAgain, circuit_of, edge_of, file_of, text_of}
 use Rattle.aig_format.specs.declared.FileKind.TheVariants.{Text}
@@ -37,6 +39,11 @@ IsRoundsRefusal j count f errors.TooLarge =
     × (2 ^ 31 < rounds_size (circuit_of f) (length literals) count)
 IsRoundsRefusal j count f errors.Memory = j < length f.properties.justice
 IsRoundsRefusal j count f e = ⊥
+
+-- the lists are those of the circuit that counts its rounds, or it is said why there are none
+abbrev pub GivesRounds : ℕ → ℕ → File → Result CircuitLists EditError → Type 0
+GivesRounds j count f (Ok lists) = IsRoundsFile j count f (lists_circuit lists)
+GivesRounds j count f (Err e) = IsRoundsRefusal j count f e
 
 -- its text was written, and the writer has not failed; or a beginning of it, and it has; or it is
 -- said why there is none

@@ -34,5 +34,5 @@ pub use printing_joints::{print_joint, write_joint};
 pub use printing_question::{print_question, write_question};
 pub use printing_reduction::{print_reduction, write_reduction};
 pub use reading_beside::read_beside;
-pub use rounding::{print_rounds, write_rounds};
+pub use rounding::{print_rounds, read_rounds, write_rounds};
 pub use words::constraints_first;

@@ -1,7 +1,8 @@
-//! Printing the file whose bad states are rounds of a justice property of one file.
+//! The file whose bad states are rounds of a justice property of one file: its circuit, and printing it.
 
-ghost use Rattle.std.specs.Prelude.{◌≡◌, ◌≤◌, ◌^◌, ◌↔◌, ℕ, IsTrue, Some, length, slice_get};
+ghost use Rattle.std.specs.Prelude.{◌≡◌, ◌≤◌, ◌^◌, ◌↔◌, ℕ, IfOk, IsTrue, Some, length, slice_get};
 ghost use Rattle.aig_circuit.specs.Circuit.{Circuit, IsCircuit};
+ghost use Rattle.aig_circuit.specs.View.{lists_circuit};
 ghost use Rattle.aig_format.specs.Circuit.{circuit_of};
 ghost use Rattle.aig_format.specs.File.{File};
 ghost use Rattle.aig_format.specs.Fits.{Fits};
@@ -9,7 +10,7 @@ ghost use Rattle.aig_format.specs.Writable.{IsWritable};
 ghost use Rattle.aig_live.specs.Rounds.{rounds_size};
 ghost use Rattle.aig_reader.specs.Verdicts.{Accepted, verdict_by};
 ghost use Rattle.aig_edits.specs.Edits.{IsEditOwn, IsEditUnwritten, ReadsFile, edit_verdict};
-ghost use Rattle.aig_edits.specs.Rounds.{IsRoundsFile, PrintsRounds};
+ghost use Rattle.aig_edits.specs.Rounds.{GivesRounds, IsRoundsFile, PrintsRounds};
 ghost use Rattle.aig_edits.specs.RoundsParts.{IsRoundsCircuit, MakesRounds};
 
 use crate::edit_error::EditError;
@@ -80,6 +81,25 @@ fn rounds_of(
     rounds_for(alloc, circuit, j, count, &sets[j])
 }
 
+/// The circuit that counts rounds of justice property `j` of a circuit with a written form, if there is one and it isn't too large.
+fn rounds_file_of(
+    alloc: Global,
+    circuit: &CircuitView<'_>,
+    j: usize,
+    count: usize,
+) -> Result<CircuitLists, EditError>
+    requires { IsWritable circuit.now }
+    ensures gives { (f : File) (bound : ℕ) → Fits f bound → circuit.now ≡ circuit_of f
+        → GivesRounds j count f result }
+    ensures circuit { IfOk result (λ lists. IsCircuit (lists_circuit lists)) }
+    ensures never_read { verdict_by edit_verdict result ≡ Accepted }
+{
+    rounds_circuits_are_circuits();
+    rounds_files_show();
+    let _nodes = circuit.nodes();
+    rounds_of(alloc, circuit, j, count)
+}
+
 /// Writes the text form of the circuit that counts rounds of a circuit to `w`, as `print_rounds` does. It doesn't flush `w`. Requires
 /// a circuit with a written form.
 ///
@@ -100,10 +120,7 @@ pub fn write_rounds<W: Sink>(
     ensures never_read { verdict_by edit_verdict result ≡ Accepted }
     ensures kept { IsEditUnwritten result → w.new ≡ w.old }
 {
-    rounds_circuits_are_circuits();
-    rounds_files_show();
-    let _nodes = circuit.nodes();
-    let made = rounds_of(alloc, circuit, j, count)?;
+    let made = rounds_file_of(alloc, circuit, j, count)?;
     Ok(write_text(w, &CircuitView::new(&made))?)
 }
 
@@ -142,4 +159,29 @@ pub fn print_rounds<R: Source, W: Sink>(
     files_are_circuits();
     let lists = aig_reader::read(alloc, r, limit)?;
     write_rounds(alloc, j, count, &CircuitView::new(&lists), w)
+}
+
+/// Reads a file in the AIGER format, and makes the lists of the circuit that counts `count` rounds of its justice property `j`. Requires
+/// `1 <= limit <= 2^31`.
+///
+/// # Errors
+///
+/// Those of `print_rounds` but `Write`.
+pub fn read_rounds<R: Source>(
+    alloc: Global,
+    j: usize,
+    count: usize,
+    r: &mut R,
+    limit: usize,
+) -> Result<CircuitLists, EditError>
+    requires some { 1 ≤ limit }
+    requires few { limit ≤ 2 ^ 31 }
+    // The bytes that were read are a file, and the lists are those of the circuit that counts its rounds.
+    ensures reads { ReadsFile R.left R.failed limit (GivesRounds j count) edit_verdict IsEditOwn
+        r.old result r.new }
+    ensures circuit { IfOk result (λ lists. IsCircuit (lists_circuit lists)) }
+{
+    files_are_circuits();
+    let lists = aig_reader::read(alloc, r, limit)?;
+    rounds_file_of(alloc, &CircuitView::new(&lists), j, count)
 }

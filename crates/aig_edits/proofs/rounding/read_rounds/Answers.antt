@@ -1,0 +1,28 @@
+use Rattle.aig_base.proofs.Words.{subst, sym, ◌∙◌}
+use Rattle.aig_circuit.proofs.Words.{IsCircuit}
+use Rattle.aig_format.proofs.Words.{IsWritable}
+use Rattle.aig_edits.specs.Rounds.{GivesRounds}
+use Rattle.aig_edits.proofs.ReadFiles.{own_of, taken_file}
+use Rattle.aig_edits.proofs.rounding.read_rounds.Goals as goal
+
+pub new-requires : goal.new-requires
+new-requires g c =
+    let read = c.in_ok-lists.ensures.circuit in
+    subst IsCircuit (sym read.means)
+    (c.files_are_circuits.ensures.circuit read.file c.args.limit read.holds.1)
+
+pub rounds_file_of-requires : goal.rounds_file_of-requires
+rounds_file_of-requires g c =
+    let read = c.in_ok-lists.ensures.circuit in
+    subst IsWritable (sym (c.new.ensures ∙ read.means))
+    (c.files_are_circuits.ensures.writable read.file c.args.limit read.bytes c.requires.few
+    read.holds)
+
+pub returns-clause-reads : goal.returns-clause-reads
+returns-clause-reads g c =
+    let told = c.in_ok-lists.ensures in
+    let made = c.rounds_file_of.ensures in
+    taken_file g.R.Source.left g.R.Source.failed c.args.limit c.args.r.now c.read.new.r
+    (GivesRounds c.args.j c.args.count) c.in_ok-lists.lists c.rounds_file_of.result told.verdict told.circuit
+    made.never_read (own_of c.rounds_file_of.result made.never_read)
+    (λ f fits is. made.gives f c.args.limit fits (c.new.ensures ∙ is))
