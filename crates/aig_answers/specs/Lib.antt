@@ -8,9 +8,7 @@ pub mod Said
 pub mod Certificates
 pub mod Comparing
 pub mod PairParts
-pub mod Bases
 pub mod Safety
-pub mod Steps
 pub mod Equality
 pub mod Liveness
 pub mod Plans

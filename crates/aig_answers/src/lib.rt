@@ -40,7 +40,7 @@ pub use plans::{
     command_plans_cover, covering_plans_are_safe, question_clauses_are_one, refuted_asks_hold,
 };
 pub use safety::{
-    SafetyError, StepsError, check_safe, check_safe_by_steps, check_safe_by_steps_of, check_safe_of,
+    SafetyError, check_safe, check_safe_of,
 };
 pub use step::{check_step, read_query, read_unrolled};
 pub use unrolled::unrolled_query;

@@ -2,8 +2,6 @@
 
 mod error;
 mod safe;
-mod steps;
 
-pub use error::{SafetyError, StepsError};
+pub use error::SafetyError;
 pub use safe::{check_safe, check_safe_of};
-pub use steps::{check_safe_by_steps, check_safe_by_steps_of};

@@ -30,7 +30,12 @@ use Rattle.aig_check_commands.specs.Acting.{Acts, RanBy, RanOn}
 use Rattle.aig_check_commands.specs.CommandWords.{AreCommand, FitNone, IsAlone, IsCall, IsWhole, command_of, equal_name, form_of, name_of, paths_of, prints, raw_alone, raw_word}
 use Rattle.aig_check_commands.specs.Inputs.{Ran}
 use Rattle.aig_check_commands.specs.Justice.{AreJustice, is_asked}
-use Rattle.aig_check_commands.specs.Living.{MeansMade, ShowsFair, fair_line}
+use Rattle.aig_check_commands.specs.Checked.{RunsGoal}
+use Rattle.aig_check_commands.specs.Goals as showing
+use Rattle.aig_check_commands.specs.Goals.{line_of, no_run_line}
+use Rattle.aig_check_commands.specs.Living.{MeansMade}
+use Rattle.aig_check_commands.specs.declared.goals.Goal.{Goal}
+use Rattle.aig_edit_laws.specs.Fair.{HasFairRun}
 use Rattle.aig_check_commands.specs.Opening.{AreOpened, OnOpening, OpensAll, unopened}
 use Rattle.aig_check_commands.specs.Pairs.{PairAnswers, RunsPair, safe_line}
 use Rattle.aig_check_commands.specs.Running.{IsAskedBy, nothing_fails, nothing_given}
@@ -47,12 +52,9 @@ asked_file : (c : FileCommand) (bytes : List ℕ) (f : File) → IsAskedBy c (2 
     → Accepts bytes (2 ^ 24) f
 asked_file (on_file.Clauses k optimize) bytes f is = is.0.0
 asked_file (on_file.Window k form optimize) bytes f is = is.0.0
-asked_file (on_file.Refuted k optimize) bytes f is = is.0.0
-asked_file (on_file.Inductive k form optimize) bytes f is = is.0.0
 asked_file (on_file.Witness k optimize) bytes f is = is.0.0
 asked_file on_file.Run bytes f is = is
 asked_file (on_file.Bounded k optimize) bytes f is = is.0
-asked_file (on_file.RefutedTo k optimize) bytes f is = is.0
 asked_file (on_file.WitnessTo k optimize) bytes f is = is.0
 
 module _ {F : Type 0} (opens : List ℕ → Result F OpenError → Type 0) where
@@ -136,6 +138,18 @@ module _ {F W : Type 0} (file other : List ℕ) (left : F → Option (List ℕ))
       no_beside c [] one = tt
       no_beside c (s ∷ files) one = λ two. absurd (omega (arith, one, two))
 
+      -- the line of a goal was written
+      goal_shown : (a : Option Justice) (goal : Goal) (base step : Bool) (r rest : F)
+          (files others : List F) (u : Unit {0}) → left r ≡ Some file
+          → RunsGoal left failed left failed held write_failed (2 ^ 24) a goal base step r files w
+          (Ok u) rest others made
+          → IsOf file (λ f. (out ≡ line_of a goal) × showing.Shows a goal f)
+      goal_shown a goal base step r rest files others u is ran =
+          let told = text_of_printed ran in
+          let of = read_of r rest is (λ bytes f holds. holds) (told.1.reads.answer refl)
+          (told.1.reads.verdict.whole tt).1 in
+          (of.0, of.1, (whole told.0 told.2 ∙ of.2.0, of.2.1))
+
       ran_shown : (c : Command) (r rest : F) (files others : List F) (u : Unit {0})
           → left r ≡ Some file → Beside c files
           → Ran left failed left failed held write_failed (2 ^ 24) c r files w (Ok u) rest others made
@@ -154,16 +168,8 @@ module _ {F W : Type 0} (file other : List ℕ) (left : F → Option (List ℕ))
           pair_shown c r rest s next p used tt tt u is (beside refl) ran
       ran_shown (commands.Pair c) r rest (s ∷ p ∷ q ∷ []) (next ∷ used ∷ spent ∷ []) u is beside ran =
           pair_shown c r rest s next p used q spent u is (beside refl) ran
-      ran_shown (commands.Safe k form o y) r rest (p ∷ q ∷ []) (used ∷ spent ∷ []) u is beside ran =
-          let told = text_of_printed ran in
-          let of = read_of r rest is (λ bytes f holds. holds.0.0) told.1.text.1
-          (told.1.verdict.whole tt).1 in
-          (of.0, of.1, (whole told.0 told.2 ∙ told.1.text.0, of.2.0))
-      ran_shown (commands.SafeBySteps k form o y) r rest files others u is beside ran =
-          let told = text_of_printed ran.runs in
-          let of = read_of r rest is (λ bytes f holds. holds.0.0) told.1.text.1
-          (told.1.verdict.whole tt).1 in
-          (of.0, of.1, (whole told.0 told.2 ∙ told.1.text.0, of.2.0))
+      ran_shown (commands.Check goal base step) r rest files others u is beside ran =
+          goal_shown None goal base step r rest files others u is ran
       ran_shown (commands.EqualBy comparison o) r rest (s ∷ c ∷ p ∷ q ∷ [])
           (next ∷ tried ∷ used ∷ spent ∷ []) u is beside ran =
           let told = text_of_printed ran in
@@ -183,10 +189,10 @@ module _ {F W : Type 0} (file other : List ℕ) (left : F → Option (List ℕ))
           (f : File) (text : List ℕ) → IsTrue (not b)
           → MeansMade b left failed held write_failed (2 ^ 24) a.property c files others w made f text
           (Ok u)
-          → (out ≡ fair_line c a.property) × ShowsFair c a.property f
+          → (out ≡ no_run_line a.property) × ¬ HasFairRun f a.property
       fair_told true c a files others u f text checks told = absurd (false≢true checks)
       fair_told false c a files others u f text checks told =
-          (whole (fair_line c a.property) told.2, told.1)
+          (whole (no_run_line a.property) told.2, told.1)
 
       by_shown : (asked : Option Justice) (c : Command) (r rest : F) (files others : List F)
           (u : Unit {0}) → left r ≡ Some file → Beside c files
@@ -195,6 +201,8 @@ module _ {F W : Type 0} (file other : List ℕ) (left : F → Option (List ℕ))
           → ShowsAsked (record { justice = asked; command = c }) file other out
       by_shown None c r rest files others u is beside ran =
           ran_shown c r rest files others u is beside ran
+      by_shown (Some a) (commands.Check goal base step) r rest files others u is beside ran =
+          λ checks. goal_shown (Some a) goal base step r rest files others u is ran
       by_shown (Some a) c r rest files others u is beside ran = λ checks.
           let of = read_of r rest is (λ bytes f holds. holds) (ran.reads.answer refl)
           (ran.reads.verdict.whole tt).1 in

@@ -1,19 +1,22 @@
 -- Serves private clauses alone.
 -- What `aigcheck` printed of files whose bytes are known, and what is then so of them.
-use Rattle.std.specs.Prelude.{◌≡◌, ℕ, ◌^◌, not, IsTrue, List, [], ◌∷◌, codes, MatchOption, Option, Some}
+use Rattle.std.specs.Prelude.{◌≡◌, ℕ, ◌^◌, not, IsTrue, List, [], ◌∷◌, codes, MatchOption, None, Option, Some}
 use Rattle.aig_format.specs.File.{File}
 use Rattle.aig_format.specs.Fits.{Accepts}
 use Rattle.aig_join.specs.Constraints.{AreEqualMachinesBy}
 use Rattle.aig_join.specs.declared.comparison.Comparison.{Comparison}
 use Rattle.aig_runs.specs.Queries.{IsSafeTo}
 use Rattle.aig_check_commands.specs.CommandWords.{IsCall, paths_of, prints}
-use Rattle.aig_check_commands.specs.Living.{ShowsFair, fair_line}
+use Rattle.aig_check_commands.specs.Goals as showing
+use Rattle.aig_check_commands.specs.Goals.{fair_line, no_run_line, safety_line}
 use Rattle.aig_check_commands.specs.Pairs.{always_line, equal_line, safe_line}
 use Rattle.aig_check_commands.specs.Running.{Answers}
 use Rattle.aig_check_commands.specs.declared.command.Asked.{Asked}
 use Rattle.aig_check_commands.specs.declared.command.Command.{Command}
 use Rattle.aig_check_commands.specs.declared.command.Command.TheVariants as commands
 use Rattle.aig_check_commands.specs.declared.command.PairCommand.TheVariants as on_pair
+use Rattle.aig_check_commands.specs.declared.justice.Justice.{Justice}
+use Rattle.aig_edit_laws.specs.Fair.{HasFairRun}
 
 -- the bytes are a file, and this is so of it
 abbrev pub IsOf : List ℕ → (File → Type 0) → Type 0
@@ -45,18 +48,22 @@ Shows (commands.Pair (on_pair.AlwaysEqual comparison k form base_optimize step_o
     AreOf file other (AreEqual comparison text)
 Shows (commands.EqualBy comparison optimize) file other text =
     AreOf file other (AreEqual comparison text)
-Shows (commands.Safe k form base_optimize step_optimize) file other text = IsOf file (IsSafe text)
-Shows (commands.SafeBySteps k form base_optimize step_optimize) file other text =
-    IsOf file (IsSafe text)
+Shows (commands.Check goal base step) file other text =
+    IsOf file (λ f. (text ≡ safety_line goal) × showing.Shows None goal f)
 Shows (commands.Simulated optimize) file other text = IsOf file (IsSafe text)
 Shows c file other text = Unit {0}
 
--- so where a justice property may be asked about, by a command that checks
+-- what is so of FILE where a command that checks asked about a justice property
+abbrev pub ShowsFair : Command → Justice → List ℕ → File → Type 0
+ShowsFair (commands.Check goal base step) a text f =
+    (text ≡ fair_line goal a.property) × showing.Shows (Some a) goal f
+ShowsFair c a text f = (text ≡ no_run_line a.property) × ¬ HasFairRun f a.property
+
+-- so where a justice property may be asked about
 abbrev pub ShowsAsked : Asked → List ℕ → List ℕ → List ℕ → Type 0
 ShowsAsked c file other text =
     MatchOption c.justice (Shows c.command file other text)
-    (λ a. IsTrue (not (prints c.command))
-    → IsOf file (λ f. (text ≡ fair_line c.command a.property) × ShowsFair c.command a.property f))
+    (λ a. IsTrue (not (prints c.command)) → IsOf file (ShowsFair c.command a text))
 
 -- the one file of a command is FILE, or the two are FILE and OTHER
 abbrev pub AreNamed : ℕ → List (List ℕ) → Type 0

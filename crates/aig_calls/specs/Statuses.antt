@@ -46,8 +46,6 @@ use Rattle.aig_refutation.specs.declared.error.RefutationError.{RefutationError}
 use Rattle.aig_refutation.specs.declared.error.RefutationError.TheVariants as refutation
 use Rattle.aig_answers.specs.declared.safety.error.SafetyError.{SafetyError}
 use Rattle.aig_answers.specs.declared.safety.error.SafetyError.TheVariants as safety
-use Rattle.aig_answers.specs.declared.safety.error.StepsError.{StepsError}
-use Rattle.aig_answers.specs.declared.safety.error.StepsError.TheVariants as steps
 use Rattle.aig_witness.specs.declared.solutions.error.SolutionError.{SolutionError}
 use Rattle.aig_witness.specs.declared.solutions.error.SolutionError.TheVariants as solution
 use Rattle.aig_witness.specs.declared.error.WitnessError.{WitnessError}
@@ -249,13 +247,6 @@ safety_status (safety.File e) = answer_status e
 safety_status (safety.Base e) = base_status e
 safety_status (safety.Step e) = step_status e
 
--- nor by a proof for each of the first steps; which one is refused isn't told
-abbrev pub steps_status : StepsError → ℕ
-steps_status (steps.File e) = answer_status e
-steps_status (steps.At n (answers.Refutation e)) = flagged 2048 (refutation_status e)
-steps_status (steps.At n e) = memory
-steps_status (steps.Step e) = step_status e
-
 -- nor that of what is made of files, whose window may be refused
 abbrev pub made_status : SafetyError → ℕ
 made_status (safety.File e) = flagged 1024 (answer_status e)
@@ -340,8 +331,7 @@ check_status (checks.Solution e) = solution_status e
 check_status (checks.Show e) = show_status e
 check_status (checks.Lasso e) = lasso_status e
 check_status (checks.Bounded e) = bounded_status e
-check_status (checks.Safe e) = safety_status e
-check_status (checks.Steps e) = steps_status e
+check_status (checks.Goal e) = memory
 check_status (checks.Certificate e) = certificate_status e
 check_status (checks.Equality e) = equality_status e
 check_status (checks.Miter e) = miter_status e

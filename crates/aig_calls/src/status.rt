@@ -1,12 +1,12 @@
 //! The numbers by which calls say how they ended.
 
 ghost use Rattle.std.specs.Prelude.{◌≡◌, ◌<◌, ◌≤◌, ℕ};
-ghost use Rattle.aig_calls.specs.Statuses.{answer_status, base_status, bounded_status, certificate_status, check_status, claim_status, condition_flag, condition_status, edit_status, encode_status, equality_status, fault_status, flagged, lasso_status, live_status, made_status, miter_status, pair_status, read_status, refutation_status, safety_status, section_number, sharing_status, show_status, simulation_status, solution_status, status_by, step_status, steps_status, tool_status, witness_status};
+ghost use Rattle.aig_calls.specs.Statuses.{answer_status, base_status, bounded_status, certificate_status, check_status, claim_status, condition_flag, condition_status, edit_status, encode_status, equality_status, fault_status, flagged, lasso_status, live_status, made_status, miter_status, pair_status, read_status, refutation_status, safety_status, section_number, sharing_status, show_status, simulation_status, solution_status, status_by, step_status, tool_status, witness_status};
 
 use aig::ReadError;
 use aig_answers::{
     AnswerError, BoundedAnswerError, CertificateError, EqualityError, LivenessError, MiterError,
-    SafetyError, StepsError,
+    SafetyError,
 };
 use aig_bounded::BoundedError;
 use aig_check_commands::CheckError;
@@ -342,22 +342,6 @@ fn of_safety(error: SafetyError) -> u32
     }
 }
 
-/// The status of a file whose machine isn't shown to be safe by a proof for each of the first steps. Which one is refused isn't told.
-fn of_steps(error: StepsError) -> u32
-    ensures { result ≡ steps_status error }
-{
-    match error {
-        StepsError::File(error) => of_answer(error),
-        StepsError::At {
-            error: AnswerError::Refutation(error),
-            ..
-        } => flagged(BASE, of_refutation(error)),
-        // A step's query has no other error but that memory ran out.
-        StepsError::At { .. } => MEMORY,
-        StepsError::Step(error) => of_step(error),
-    }
-}
-
 /// The status of what is made of files, where it isn't shown to be safe.
 fn of_made(error: SafetyError) -> u32
     ensures { result ≡ made_status error }
@@ -584,8 +568,7 @@ impl HasNumber for CheckError {
             CheckError::Show(error) => of_show(error),
             CheckError::Lasso(fault) => of_lasso(fault),
             CheckError::Bounded(error) => of_bounded(error),
-            CheckError::Safe(error) => of_safety(error),
-            CheckError::Steps(error) => of_steps(error),
+            CheckError::Goal(_) => MEMORY,
             CheckError::Certificate(error) => of_certificate(error),
             CheckError::Equality(error) => of_equality(error),
             CheckError::Miter(error) => of_miter(error),

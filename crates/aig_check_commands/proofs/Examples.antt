@@ -21,7 +21,7 @@ use Rattle.aig_answers.specs.declared.error.AnswerError.{AnswerError}
 use Rattle.aig_answers.specs.declared.error.AnswerError.TheVariants as answers
 use Rattle.aig_answers.specs.declared.bounded_checks.clauses.BoundedClauses.{BoundedClauses}
 use Rattle.aig_answers.specs.Asking.{AsksBounded, IsSettled}
-use Rattle.aig_check_commands.specs.Bounded.{IsBoundedText, safe_to_line}
+use Rattle.aig_check_commands.specs.Bounded.{IsBoundedText}
 use Rattle.aig_check_commands.specs.Titles.{title_text}
 use Rattle.aig_simulation.specs.declared.condition.Condition.{Condition}
 use Rattle.aig_simulated.specs.Simulated.{TellsOfCondition}
@@ -40,7 +40,11 @@ use Rattle.aig_answers.specs.declared.bounded_checks.error.BoundedAnswerError.Th
 use Rattle.aig_reader.specs.declared.error.ReadError.TheVariants as read
 use Rattle.aig_check_commands.specs.declared.error.CheckError.{CheckError}
 use Rattle.aig_check_commands.specs.declared.error.CheckError.TheVariants as errors
-use Rattle.aig_check_commands.specs.Running.{Answers, IsErrorOf, TellsOfGiven, file_verdict, shown_line, step_line, window_line, ChecksFile, verdict_of}
+use Rattle.aig_check_commands.specs.Running.{ChecksFile, IsErrorOf, TellsOfGiven, file_verdict, nothing_fails, nothing_given, shown_line, verdict_of}
+use Rattle.aig_runs.specs.declared.window.Window.{Window}
+use Rattle.aig_check_commands.specs.Checked.{TellsOfGoal}
+use Rattle.aig_check_commands.specs.Goals.{safe_to_line, step_line, window_line}
+use Rattle.aig_check_commands.specs.declared.goals.Goal.TheVariants as goals
 use Rattle.aig_check_commands.specs.Acting.{Acts}
 use Rattle.aig_check_commands.specs.Inputs.{bytes_of, has_failed}
 use Rattle.aig_check_commands.specs.Living.{PrintsMade}
@@ -83,7 +87,8 @@ whole_of words c d x is (inl whole) = whole
 whole_of words c d x is (inr other) = absurd (none other.1)
   where
     never : (step : Bool) (c : Command) → ¬ (raw_alone step c ≡ Some (asked.File d))
-    never step (asked.Safe k form o p) is = cc
+    never step (asked.Check (goals.Safe k form) o p) is = cc
+    never step (asked.Check (goals.SafeBySteps k form) o p) is = cc
     never step (asked.Pair (on_pair.AlwaysEqual comparison k form o p)) is = cc
     never step c is = cc
 
@@ -336,19 +341,28 @@ loop-told : shown_line (properties.Lasso (record { justice = 0; start = 2; last 
 unfolding digits
 loop-told = refl
 
--- a proof for one step is told as one for each
-no_window_told : (optimize : Bool) (given bytes : Option (List ℕ)) (f : File)
-    → ¬ Answers (commands.Refuted 1 optimize) given bytes f (window_line 1)
-unfolding digits
-no_window_told optimize given bytes f answers =
-    let word : 97 ≡ 115 = ap (λ text. slice_index text 16) answers.0 in omega (arith, word)
+module _ {S : Type 0} (left : S → Option (List ℕ)) (failed : S → Bool) (limit : ℕ)
+    (base step : Bool) (proofs others : List S) (f : File) where
+  -- a proof for one step is told as one for each
+  no_window_told : ¬ TellsOfGoal left failed limit None (goals.Refuted 1) base step proofs others f
+      (Ok (window_line 1))
+  unfolding digits
+  no_window_told told =
+      let word : 97 ≡ 115 = ap (λ text. slice_index text 16) told.0 in omega (arith, word)
 
--- steps up to one are told as that one
-no_one_step_told : (optimize : Bool) (given bytes : Option (List ℕ)) (f : File)
-    → ¬ Answers (commands.RefutedTo 1 optimize) given bytes f (step_line 1)
-unfolding digits
-no_one_step_told optimize given bytes f answers =
-    let word : 97 ≡ 117 = ap (λ text. slice_index text 13) answers.0 in omega (arith, word)
+  -- steps up to one are told as that one
+  no_one_step_told : ¬ TellsOfGoal left failed limit None (goals.RefutedTo 1) base step proofs
+      others f (Ok (step_line 1))
+  unfolding digits
+  no_one_step_told told =
+      let word : 97 ≡ 117 = ap (λ text. slice_index text 13) told.0 in omega (arith, word)
+
+  -- what is shown of a justice property is told of the bad states
+  no_bad_states_told : (a : Justice) (k : ℕ) (form : Window)
+      → ¬ TellsOfGoal left failed limit (Some a) (goals.Safe k form) base step proofs others f
+      (Ok safe_line)
+  no_bad_states_told a k form told =
+      let letter : 98 ≡ 102 = ap (λ text. slice_index text 3) told.0 in omega (arith, letter)
 
 -- equal machines are told as a safe one
 no_safety_told : (comparison : Comparison) (k limit : ℕ) (optimize : Bool)
@@ -467,17 +481,17 @@ no_memory_before_files {F} {W} left failed held write_failed limit c path paths 
 
 -- a read of what is made of FILE is told to have failed
 no_failed_read_of_a_text : {S W : Type 0} (left_of : S → Option (List ℕ)) (failed_of : S → Bool)
-    (held : W → Option (List ℕ)) (write_failed : W → Bool) (limit k : ℕ) (optimize : Bool) (p used : S)
+    (held : W → Option (List ℕ)) (write_failed : W → Bool) (limit k : ℕ) (optimize : Bool)
     (w made : W) (text : List ℕ)
     → ¬ PrintsMade left_of failed_of held write_failed limit
-    (asked.File (commands.RefutedTo k optimize)) (p ∷ []) (used ∷ []) w made text
+    (asked.File (commands.Bounded k optimize)) [] [] w made text
     (Err (errors.Bounded (bounded.Read read.Stream)))
-no_failed_read_of_a_text left_of failed_of held write_failed limit k optimize p used w made text told =
+no_failed_read_of_a_text left_of failed_of held write_failed limit k optimize w made text told =
     on told.1.answer told.1.holds told.1.ends
   where
     on : (x : Result (List ℕ) CheckError)
-        → ChecksFile bytes_of has_failed left_of failed_of (commands.RefutedTo k optimize) limit
-        (Some text, false) p (Some told.0, false) used x
+        → ChecksFile bytes_of has_failed nothing_given nothing_fails (commands.Bounded k optimize)
+        limit (Some text, false) tt (Some told.0, false) tt x
         → ¬ EndsWith held write_failed x w (Err (errors.Bounded (bounded.Read read.Stream))) made
     on (Ok line) holds ends = let not = ends.0 in cc
     on (Err e) holds ends =

@@ -16,7 +16,10 @@ use Rattle.aig_check_commands.specs.declared.error.CheckError.TheVariants as err
 use Rattle.aig_check_commands.specs.Acting.{Acts, RanBy, RanOn}
 use Rattle.aig_check_commands.specs.Printed.{EndsWith, Printed}
 use Rattle.aig_check_commands.specs.Inputs.{Ran, bytes_of, has_failed}
-use Rattle.aig_check_commands.specs.Living.{ChecksText, Concludes, IsMadeOwn, IsOfMaking, MeansMade, RunsMade, ShowsFair, TellsMade, fair_line, made_verdict}
+use Rattle.aig_check_commands.specs.Living.{ChecksText, Concludes, IsOfMaking, MeansMade, RunsMade, TellsMade}
+use Rattle.aig_check_commands.specs.Checked.{IsMadeOwn, made_verdict}
+use Rattle.aig_check_commands.specs.Goals.{no_run_line}
+use Rattle.aig_edit_laws.specs.Fair.{HasFairRun}
 use Rattle.aig_check_commands.specs.Pairs.{other_verdict_of, safe_line}
 use Rattle.aig_check_commands.specs.Running.{verdict_of}
 use Rattle.aig_check_commands.specs.Simulating.{IsErrorOfObligation, IsErrorOfSimulated, RunsObligation, RunsSimulated, TellsOfObligation, TellsOfSimulated, refusal_of}
@@ -245,20 +248,8 @@ module _ {W : Type 0} (held : W → Option (List ℕ)) (write_failed : W → Boo
   ran_ended left failed left_of failed_of (commands.Pair c) r rest (s ∷ p ∷ q ∷ [])
       (other ∷ used ∷ spent ∷ []) ran =
       printed ran
-  ran_ended left failed left_of failed_of (commands.Safe k form base_optimize step_optimize) r rest
-      (p ∷ q ∷ []) (used ∷ spent ∷ []) ran =
+  ran_ended left failed left_of failed_of (commands.Check goal base step) r rest files others ran =
       printed ran
-  ran_ended left failed left_of failed_of
-      (commands.SafeBySteps k form base_optimize step_optimize) r rest files others ran =
-      record {
-        bases = ran.bases;
-        step = ran.step;
-        are = ran.are;
-        used = ran.used;
-        spent = ran.spent;
-        become = ran.become;
-        runs = printed ran.runs;
-      }
   ran_ended left failed left_of failed_of (commands.EqualBy comparison optimize) r rest
       (s ∷ c ∷ p ∷ q ∷ []) (other ∷ tried ∷ used ∷ spent ∷ []) ran =
       printed ran
@@ -275,32 +266,33 @@ module _ {W : Type 0} (held : W → Option (List ℕ)) (write_failed : W → Boo
   ran_ended left failed left_of failed_of c r rest files others ran = absurd ran
 
   module _ {R S : Type 0} (left : R → Option (List ℕ)) (failed : R → Bool)
-      (left_of : S → Option (List ℕ)) (failed_of : S → Bool) (c : Command) (r rest : R)
+      (left_of : S → Option (List ℕ)) (failed_of : S → Bool) (r rest : R)
       (files others : List S) where
-    means_ended : (b : Bool) (property : ℕ) (f : File) (text : List ℕ)
-        → MeansMade b left_of failed_of held write_failed limit property c files others w made f text
-        (Ok u)
-        → MeansMade b left_of failed_of held write_failed limit property c files others w flat f text
-        done
-    means_ended true property f text told = (
+    means_ended : (c : Command) (b : Bool) (property : ℕ) (f : File) (text : List ℕ)
+        → MeansMade b left_of failed_of held write_failed limit property c files others w made f
+        text (Ok u)
+        → MeansMade b left_of failed_of held write_failed limit property c files others w flat f
+        text done
+    means_ended c true property f text told = (
       told.0,
-      ran_ended bytes_of has_failed left_of failed_of c (Some text, false) (Some told.0, false) files
-          others told.1,
+      ran_ended bytes_of has_failed left_of failed_of c (Some text, false) (Some told.0, false)
+          files others told.1,
     )
-    means_ended false property f text told =
-        concludes_ended held write_failed w made flat keeps u (fair_line c property)
-        (ShowsFair c property f) (ChecksText left_of failed_of limit c files others text) done ends
+    means_ended c false property f text told =
+        concludes_ended held write_failed w made flat keeps u (no_run_line property)
+        (¬ HasFairRun f property) (ChecksText left_of failed_of limit c files others text) done ends
         told
 
-    by_ended : (asked : Option Justice)
+    by_ended : (c : Command) (asked : Option Justice)
         → RanBy left failed left_of failed_of held write_failed limit asked c r files w (Ok u) rest
         others made
         → RanBy left failed left_of failed_of held write_failed limit asked c r files w done rest
         others flat
-    by_ended None ran = ran_ended left failed left_of failed_of c r rest files others ran
-    by_ended (Some a) ran =
+    by_ended c None ran = ran_ended left failed left_of failed_of c r rest files others ran
+    by_ended (commands.Check goal base step) (Some a) ran = printed ran
+    by_ended c (Some a) ran =
         made_ended left failed limit a _ _ _ _ r rest _ u done ends
-        (means_ended (prints c) a.property) ran
+        (means_ended c (prints c) a.property) ran
 
   module _ {F : Type 0} (opens : List ℕ → Result F OpenError → Type 0)
       (left : F → Option (List ℕ)) (failed : F → Bool) (c : Asked) where
@@ -308,7 +300,7 @@ module _ {W : Type 0} (held : W → Option (List ℕ)) (write_failed : W → Boo
         → RanOn left failed held write_failed limit c files w (Ok u) others made
         → RanOn left failed held write_failed limit c files w done others flat
     on_ended (r ∷ files) (rest ∷ others) ran =
-        by_ended left failed left failed c.command r rest files others c.justice ran
+        by_ended left failed left failed r rest files others c.command c.justice ran
     on_ended [] others ran = absurd ran
     on_ended (r ∷ files) [] ran = absurd ran
 

@@ -1,15 +1,17 @@
+mod Making
+mod Nameless
 mod Commenting
 mod Calling
 mod Comparing
 mod Equating
+mod Fair
 mod Flushing
+mod Showing
 mod Made
 mod Opened
 pub mod Outcomes
 mod Pairing
 mod Placing
-mod Proving
-mod ProvingSteps
 mod Refusing
 mod Shown
 mod Simulating

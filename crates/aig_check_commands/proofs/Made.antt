@@ -1,7 +1,7 @@
 -- What the text of the file that is made for a justice property shows of the file itself.
-use Rattle.aig_base.proofs.Words.{◌≡◌, ◌≢◌, ◌==◌, ◌↔◌, ℕ, zero, suc, ◌+◌, ◌≤◌, ◌<◌, eqb-true, false_from_ne_true, sym, ◌∙◌, true≢false, Bool, true, false, List, [], ◌∷◌, Option, None, Some, Ok, Err, Vec, Global, refl, subst, arith, length, Appends, IsAtEnd, Consumes-whole}
+use Rattle.aig_base.proofs.Words.{◌≡◌, ◌≢◌, ◌==◌, ℕ, zero, suc, ◌+◌, ◌≤◌, ◌<◌, eqb-true, false_from_ne_true, sym, ◌∙◌, true≢false, Bool, true, false, List, [], ◌∷◌, Option, None, Some, Ok, Err, Vec, Global, refl, subst, arith, length, Appends, IsAtEnd, Consumes-whole}
 use mathlib.Core.List.{map-id}
-use Rattle.std.specs.Prelude.{IfErr, IsTrue, MatchOption, Result, is_none}
+use Rattle.std.specs.Prelude.{IfErr, IsTrue, MatchOption, Result}
 use Rattle.std.proofs.lemmas.Option.{slice_get_within}
 use Rattle.aig_output.specs.Sinks.{WritesOrStops}
 use Rattle.aig_circuit.specs.Circuit.{Circuit}
@@ -11,17 +11,14 @@ use Rattle.aig_edits.specs.Edits.{IsEditOwn, ReadsFile, edit_verdict}
 use Rattle.aig_edits.specs.Lives.{IsLiveFile, IsLiveRefusal, PrintsLive}
 use Rattle.aig_edits.specs.Rounds.{IsRoundsFile, IsRoundsRefusal, PrintsRounds}
 use Rattle.aig_edits.proofs.ReadFiles.{file_on}
-use Rattle.aig_edit_laws.specs.Shown.{HasWitness}
 use Rattle.aig_format.specs.Circuit.{IsReadAgain, text_of}
 use Rattle.aig_format.specs.declared.FileKind.TheVariants.{Text}
 use Rattle.aig_format.specs.Fits.{Accepts}
 use Rattle.aig_format.proofs.Words.{File, file_of}
-use Rattle.aig_edit_laws.specs.Fair.{HasFairLasso, HasFairRun}
+use Rattle.aig_edit_laws.specs.Fair.{HasFairRun}
 use Rattle.aig_reader.specs.Reading.{IsReadAs}
 use Rattle.aig_reader.specs.Verdicts.{Accepted, verdict_by}
 use Rattle.aig_reader.proofs.Verdicts.{one_file}
-use Rattle.aig_runs.specs.Queries.{IsSafeTo}
-use Rattle.aig_runs.proofs.SafeSteps.{safe_is}
 use Rattle.aig_command_line.specs.declared.discarded.Discarded.{Discarded}
 use Rattle.aig_check_commands.specs.declared.command.Command.{Command}
 use Rattle.aig_check_commands.specs.declared.command.Command.TheVariants as commands
@@ -35,14 +32,18 @@ use Rattle.aig_check_commands.specs.declared.error.CheckError.TheVariants as err
 use Rattle.aig_check_commands.specs.Comparing.{IsErrorOfComparing}
 use Rattle.aig_check_commands.specs.Inputs.{Ran, Stream, bytes_of, has_failed}
 use Rattle.aig_check_commands.specs.Justice.{is_asked}
-use Rattle.aig_check_commands.specs.Living.{ChecksText, Concludes, IsMadeOf, IsMadeOwn, IsOfMaking, IsUnmade, PrintsMade, RunsMade, ShowsFair, TellsMade, keeps_nothing, made_verdict, never_fails}
+use Rattle.aig_check_commands.specs.Living.{ChecksText, Concludes, IsOfMaking, IsOnText, PrintsMade, RanMade, RunsMade, TellsMade, keeps_nothing, never_fails}
+use Rattle.aig_check_commands.specs.Acting.{RanBy}
+use Rattle.aig_check_commands.specs.Checked.{IsMadeOwn, made_verdict}
+use Rattle.aig_check_commands.specs.Made.{IsMadeOf, IsUnmade}
+use Rattle.aig_check_commands.specs.declared.goals.Goal.{Goal}
+use Rattle.aig_check_commands.specs.declared.goals.Goal.TheVariants as goals
+use Rattle.aig_check_commands.proofs.Fair.{AreLassos, made_again, no_run}
 use Rattle.aig_check_commands.specs.LivingParts.{MakesText, WritesMade, text_error}
 use Rattle.aig_check_commands.specs.Printed.{EndsWith, Printed}
 use Rattle.aig_check_commands.specs.Printing.{after_writing}
 use Rattle.aig_check_commands.specs.Pairs.{ChecksPair, IsErrorOfPair, safe_line}
-use Rattle.aig_check_commands.specs.Running.{ChecksFile, IsErrorOf}
-use Rattle.aig_check_commands.specs.Safe.{IsErrorOfSafe}
-use Rattle.aig_check_commands.specs.SafeBySteps.{IsErrorOfSteps}
+use Rattle.aig_check_commands.specs.Running.{IsErrorOf}
 use Rattle.aig_check_commands.specs.Simulating.{RunsObligation, RunsSimulated}
 use Rattle.aig_simulated.specs.Simulated.{Proofs, proofs_of}
 use Rattle.aig_simulation.specs.declared.condition.Condition.{Condition}
@@ -87,78 +88,9 @@ read_back {Means = Means} {rest = rest} {x = x} limit m accepts again end read =
 
 -- ---- what is so of the file
 
--- a justice property has a fair run exactly where it has a fair lasso
-abbrev pub AreLassos : Type 0
-AreLassos = (g : File) (i : ℕ) → HasFairRun g i ↔ ((k : ℕ) × HasFairLasso g i k)
-
--- what is made reaches no bad state: there is no fair run
-no_run : (runs_are : AreLassos) (a : Justice) (f : File) (m : Circuit) → IsMadeOf a f m
-    → ((n : ℕ) → IsSafeTo (file_of Text m) n) → ¬ HasFairRun f a.property
-no_run runs_are a f m made safe = none a.rounds made
-  where
-    never : (n : ℕ) → ¬ HasWitness (file_of Text m) n
-    never n = (safe_is (file_of Text m) n).1 (safe n) n (omega arith)
-
-    none : (rounds : Option ℕ)
-        → MatchOption rounds (IsLiveFile a.property f m) (λ n. IsRoundsFile a.property n f m)
-        → ¬ HasFairRun f a.property
-    none None live = λ run.
-        let lasso = (runs_are f a.property).0 run in
-        never lasso.0 ((live.shows lasso.0).1 lasso.1)
-    none (Some n) rounds = rounds.none never
-
--- its text is read as its file
-made_again : (a : Justice) (f : File) (m : Circuit) → IsMadeOf a f m
-    → IsReadAgain m (file_of Text m)
-made_again a f m made = again a.rounds made
-  where
-    again : (rounds : Option ℕ)
-        → MatchOption rounds (IsLiveFile a.property f m) (λ n. IsRoundsFile a.property n f m)
-        → IsReadAgain m (file_of Text m)
-    again None live = live.again
-    again (Some n) rounds = rounds.again
-
--- it is asked about, without rounds
-live_of : (rounds : Option ℕ) (property : ℕ) (f : File) (m : Circuit) → is_none rounds ≡ true
-    → MatchOption rounds (IsLiveFile property f m) (λ n. IsRoundsFile property n f m)
-    → IsLiveFile property f m
-live_of None property f m is live = live
-live_of (Some n) property f m is live = cc
-
 -- what was given beside its text was taken
 module _ (runs_are : AreLassos) (limit : ℕ) (a : Justice) (f : File) (m : Circuit)
     (made : IsMadeOf a f m) (rest : Stream) (w done : Discarded) where
-  file_shows : {P : Type 0} {given : P → Option (List ℕ)} {given_failed : P → Bool} (p used : P)
-      (c : FileCommand) (text : List ℕ) → 0 < beside_of (commands.File c)
-      → IsTrue (is_asked (Some a) (commands.File c))
-      → ChecksFile bytes_of has_failed given given_failed c limit (Some (text_of m), false) p rest
-      used (Ok text)
-      → ShowsFair (commands.File c) a.property f
-  file_shows p used (on_file.Refuted k optimize) text some asked runs =
-      let live = live_of a.rounds a.property f m asked made in
-      let answer = read_back limit m (λ bytes g is. is.0.0) live.again (runs.verdict.whole tt).1
-      runs.text in
-      λ lasso. answer.1 ((live.shows k).1 lasso)
-  file_shows p used (on_file.RefutedTo k optimize) text some asked runs =
-      let live = live_of a.rounds a.property f m asked made in
-      let answer = read_back limit m (λ bytes g is. is.0) live.again (runs.verdict.whole tt).1
-      runs.text in
-      λ n low lasso. (safe_is (file_of Text m) k).1 answer.1 n low ((live.shows n).1 lasso)
-  file_shows p used (on_file.Inductive k form optimize) text some asked runs =
-      let live = live_of a.rounds a.property f m asked made in
-      let answer = read_back limit m (λ bytes g is. is.0.0) live.again (runs.verdict.whole tt).1
-      runs.text in
-      let g = file_of Text m in
-      λ none run.
-      let lasso = (runs_are f a.property).0 run in
-      let first = (safe_is g k).0 (λ n low found. none n low ((live.shows n).0 found)) in
-      (safe_is g lasso.0).1 (answer.2 first lasso.0) lasso.0 (omega arith) ((live.shows lasso.0).1
-      lasso.1)
-  file_shows p used (on_file.Clauses k optimize) text some asked runs = absurd (omega (arith, some))
-  file_shows p used (on_file.Window k form optimize) text some asked runs = absurd (omega (arith, some))
-  file_shows p used (on_file.Bounded k optimize) text some asked runs = absurd (omega (arith, some))
-  file_shows p used c text some asked runs = absurd (true≢false (sym asked))
-
   pair_shows : {S P Q : Type 0} {left_of : S → Option (List ℕ)} {failed_of : S → Bool}
       {base_left : P → Option (List ℕ)} {base_failed : P → Bool} {step_left : Q → Option (List ℕ)}
       {step_failed : Q → Bool} (s other : S) (p used : P) (q spent : Q) (c : PairCommand)
@@ -166,7 +98,7 @@ module _ (runs_are : AreLassos) (limit : ℕ) (a : Justice) (f : File) (m : Circ
       → IsTrue (is_asked (Some a) (commands.Pair c))
       → ChecksPair bytes_of has_failed left_of failed_of base_left base_failed step_left step_failed
       c limit (Some (text_of m), false) s p q rest other used spent (Ok text)
-      → ShowsFair (commands.Pair c) a.property f
+      → ¬ HasFairRun f a.property
   pair_shows s other p used q spent (on_pair.Certified optimize) text some asked runs =
       let both = runs.reads in
       no_run runs_are a f m made
@@ -176,52 +108,52 @@ module _ (runs_are : AreLassos) (limit : ℕ) (a : Justice) (f : File) (m : Circ
       absurd (omega (arith, some))
   pair_shows s other p used q spent c text some asked runs = absurd (true≢false (sym asked))
 
+  -- no command on a file checks the text
+  file_not : (c : FileCommand) → 0 < beside_of (commands.File c)
+      → ¬ IsTrue (is_asked (Some a) (commands.File c))
+  file_not (on_file.Clauses k optimize) some asked = omega (arith, some)
+  file_not (on_file.Window k form optimize) some asked = omega (arith, some)
+  file_not (on_file.Bounded k optimize) some asked = omega (arith, some)
+  file_not c some asked = true≢false (sym asked)
+
   ran_shows : {S : Type 0} (left_of : S → Option (List ℕ)) (failed_of : S → Bool) (c : Command)
-      (files others : List S) → 0 < beside_of c → IsTrue (is_asked (Some a) c)
+      (files others : List S) → IsOnText c → 0 < beside_of c → IsTrue (is_asked (Some a) c)
       → Ran bytes_of has_failed left_of failed_of keeps_nothing never_fails limit c
       (Some (text_of m), false) files w (Ok tt) rest others done
-      → ShowsFair c a.property f
-  ran_shows left_of failed_of (commands.File c) [] [] some asked ran =
-      let text = text_of_printed ran in file_shows tt tt c text.0 some asked text.1
-  ran_shows left_of failed_of (commands.File c) (p ∷ []) (used ∷ []) some asked ran =
-      let text = text_of_printed ran in file_shows p used c text.0 some asked text.1
-  ran_shows left_of failed_of (commands.Pair c) (s ∷ []) (other ∷ []) some asked ran =
+      → ¬ HasFairRun f a.property
+  ran_shows left_of failed_of (commands.File c) files others on some asked ran =
+      absurd (file_not c some asked)
+  ran_shows left_of failed_of (commands.Check goal base step) files others on some asked ran =
+      absurd on
+  ran_shows left_of failed_of (commands.Pair c) (s ∷ []) (other ∷ []) on some asked ran =
       let text = text_of_printed ran in pair_shows s other tt tt tt tt c text.0 some asked text.1
-  ran_shows left_of failed_of (commands.Pair c) (s ∷ p ∷ []) (other ∷ used ∷ []) some asked ran =
+  ran_shows left_of failed_of (commands.Pair c) (s ∷ p ∷ []) (other ∷ used ∷ []) on some asked ran =
       let text = text_of_printed ran in pair_shows s other p used tt tt c text.0 some asked text.1
-  ran_shows left_of failed_of (commands.Pair c) (s ∷ p ∷ q ∷ []) (other ∷ used ∷ spent ∷ []) some
+  ran_shows left_of failed_of (commands.Pair c) (s ∷ p ∷ q ∷ []) (other ∷ used ∷ spent ∷ []) on some
       asked ran =
       let text = text_of_printed ran in pair_shows s other p used q spent c text.0 some asked text.1
-  ran_shows left_of failed_of (commands.Safe k form base_optimize step_optimize) (p ∷ q ∷ [])
-      (used ∷ spent ∷ []) some asked ran =
-      let told = (text_of_printed ran).1 in
-      no_run runs_are a f m made
-      (read_back limit m (λ bytes g is. is.0.0) (made_again a f m made) (told.verdict.whole tt).1
-      told.text.1).0
-  ran_shows left_of failed_of (commands.SafeBySteps k form base_optimize step_optimize) files
-      others some asked ran =
-      absurd (true≢false (sym asked))
-  ran_shows left_of failed_of (commands.EqualBy comparison optimize) files others some asked ran =
+  ran_shows left_of failed_of (commands.EqualBy comparison o) files others on some asked ran =
       absurd (true≢false (sym asked))
   ran_shows left_of failed_of (commands.Simulated optimize) (s ∷ p ∷ q ∷ x ∷ y ∷ z ∷ [])
-      (other ∷ p_rest ∷ q_rest ∷ x_rest ∷ y_rest ∷ z_rest ∷ []) some asked runs =
+      (other ∷ p_rest ∷ q_rest ∷ x_rest ∷ y_rest ∷ z_rest ∷ []) on some asked runs =
       let both = runs.reads in
       no_run runs_are a f m made
       (read_back limit m (λ bytes g is. is) (made_again a f m made) (both.verdict.whole tt).1
       (both.answer refl refl)).means.0.1
-  ran_shows left_of failed_of (commands.Obligation condition optimize) files others some asked ran =
+  ran_shows left_of failed_of (commands.Obligation condition o) files others on some asked ran =
       absurd (omega (arith, some))
-  ran_shows left_of failed_of c files others some asked ran = absurd ran
+  ran_shows left_of failed_of c files others on some asked ran = absurd ran
 
 pub shows_fair : {S : Type 0} (left_of : S → Option (List ℕ)) (failed_of : S → Bool)
     (runs_are : AreLassos) (limit : ℕ) (a : Justice) (f : File) (m : Circuit) → IsMadeOf a f m
-    → (c : Command) (files others : List S) → 0 < beside_of c → IsTrue (is_asked (Some a) c)
+    → (c : Command) (files others : List S) → IsOnText c → 0 < beside_of c
+    → IsTrue (is_asked (Some a) c)
     → ChecksText left_of failed_of limit c files others (text_of m) (Ok tt)
-    → ShowsFair c a.property f
-shows_fair left_of failed_of runs_are limit a f m made c files others some asked checks =
+    → ¬ HasFairRun f a.property
+shows_fair left_of failed_of runs_are limit a f m made c files others text some asked checks =
     let on = checks.2 in
     ran_shows runs_are limit a f m made (Some on.0, false) checks.0 checks.1 left_of failed_of c
-    files others some asked on.1
+    files others text some asked on.1
 
 -- ---- the making
 
@@ -351,14 +283,6 @@ compare_apart : (e : CheckError) → IsErrorOfComparing e → IsApart e
 compare_apart (errors.Miter e) own = (λ is. cc, λ is. is)
 compare_apart e own = absurd own
 
-safe_apart : (e : CheckError) → IsErrorOfSafe e → IsApart e
-safe_apart (errors.Safe e) own = (λ is. cc, λ is. is)
-safe_apart e own = absurd own
-
-steps_apart : (k : ℕ) (e : CheckError) → IsErrorOfSteps k e → IsApart e
-steps_apart k (errors.Steps e) own = (λ is. cc, λ is. is)
-steps_apart k e own = absurd own
-
 each_error : {IsOwn IsSuch : CheckError → Type 0} → ((e : CheckError) → IsOwn e → IsSuch e)
     → (x : Result (List ℕ) CheckError) → IfErr x IsOwn → IfErr x IsSuch
 each_error so (Ok text) own = tt
@@ -471,50 +395,50 @@ module _ {R S W : Type 0} (left : R → Option (List ℕ)) (failed : R → Bool)
     (left_of : S → Option (List ℕ)) (failed_of : S → Bool) (held : W → Option (List ℕ))
     (write_failed : W → Bool) (limit : ℕ) (r rest : R) (w made : W) where
   ran_apart : (result : Result (Unit {0}) CheckError) (c : Command) (files others : List S)
+      → IsOnText c
       → Ran left failed left_of failed_of held write_failed limit c r files w result rest others
       made
       → PrintedApart held write_failed w result made
-  ran_apart result (commands.File c) [] [] ran =
+  ran_apart result (commands.File c) [] [] on ran =
       apart_as (λ x told. each_error (file_apart c) x told.own) ran
-  ran_apart result (commands.File c) (p ∷ []) (used ∷ []) ran =
+  ran_apart result (commands.File c) (p ∷ []) (used ∷ []) on ran =
       apart_as (λ x told. each_error (file_apart c) x told.own) ran
-  ran_apart result (commands.Pair c) (s ∷ []) (other ∷ []) ran =
+  ran_apart result (commands.Pair c) (s ∷ []) (other ∷ []) on ran =
       apart_as (λ x told. each_error (pair_apart c) x told.reads.own) ran
-  ran_apart result (commands.Pair c) (s ∷ p ∷ []) (other ∷ used ∷ []) ran =
+  ran_apart result (commands.Pair c) (s ∷ p ∷ []) (other ∷ used ∷ []) on ran =
       apart_as (λ x told. each_error (pair_apart c) x told.reads.own) ran
-  ran_apart result (commands.Pair c) (s ∷ p ∷ q ∷ []) (other ∷ used ∷ spent ∷ []) ran =
+  ran_apart result (commands.Pair c) (s ∷ p ∷ q ∷ []) (other ∷ used ∷ spent ∷ []) on ran =
       apart_as (λ x told. each_error (pair_apart c) x told.reads.own) ran
-  ran_apart result (commands.Safe k form o y) (p ∷ q ∷ []) (used ∷ spent ∷ []) ran =
-      apart_as (λ x told. each_error safe_apart x told.own) ran
-  ran_apart result (commands.SafeBySteps k form o y) files others ran =
-      apart_as (λ x told. each_error (steps_apart k) x told.own) ran.runs
+  ran_apart result (commands.Check goal base step) files others on ran = absurd on
   ran_apart result (commands.EqualBy comparison o) (s ∷ c ∷ p ∷ q ∷ [])
-      (other ∷ tried ∷ used ∷ spent ∷ []) ran =
+      (other ∷ tried ∷ used ∷ spent ∷ []) on ran =
       apart_as (λ x told. each_error compare_apart x told.reads.own) ran
   ran_apart result (commands.Simulated o) (s ∷ a ∷ b ∷ c ∷ d ∷ f ∷ [])
-      (other ∷ a_rest ∷ b_rest ∷ c_rest ∷ d_rest ∷ f_rest ∷ []) ran =
+      (other ∷ a_rest ∷ b_rest ∷ c_rest ∷ d_rest ∷ f_rest ∷ []) on ran =
       simulated_apart {ps = proofs_of a b c d f}
       {used = proofs_of a_rest b_rest c_rest d_rest f_rest} result ran
-  ran_apart result (commands.Obligation condition o) (s ∷ []) (other ∷ []) ran =
+  ran_apart result (commands.Obligation condition o) (s ∷ []) (other ∷ []) on ran =
       obligation_apart result ran
-  ran_apart result c files others ran = absurd ran
+  ran_apart result c files others on ran = absurd ran
 
   pub ran_no_making : (result : Result (Unit {0}) CheckError) (c : Command) (files others : List S)
+      → IsOnText c
       → Ran left failed left_of failed_of held write_failed limit c r files w result rest others
       made
       → IfErr result (λ e. ¬ IsOfMaking e)
-  ran_no_making result c files others ran =
-      no_making result (ran_apart result c files others ran)
+  ran_no_making result c files others on ran =
+      no_making result (ran_apart result c files others on ran)
 
 module _ {R S : Type 0} (left : R → Option (List ℕ)) (failed : R → Bool)
     (left_of : S → Option (List ℕ)) (failed_of : S → Bool) (limit : ℕ) (r rest : R) where
   pub ran_no_write : (w made : Discarded) (c : Command) (files others : List S) (e : CheckError)
+      → IsOnText c
       → Ran left failed left_of failed_of keeps_nothing never_fails limit c r files w (Err e) rest
       others made
       → e ≢ errors.Write
-  ran_no_write w made c files others e ran =
+  ran_no_write w made c files others e on ran =
       no_write e (ran_apart left failed left_of failed_of keeps_nothing never_fails limit r rest w
-      made (Err e) c files others ran)
+      made (Err e) c files others on ran)
 
 -- the bytes of a text in memory are known, and no read of them fails
 abbrev known : List ℕ → Option (List ℕ)
@@ -552,3 +476,31 @@ checks_where c not = from (beside_of c) not
 
 pub prints_where : (c : Command) → prints c ≡ true → beside_of c ≡ 0
 prints_where c is = eqb-true (beside_of c) 0 is
+
+-- they print of the text
+pub prints_on_text : (c : Command) → beside_of c ≡ 0 → IsOnText c
+prints_on_text (commands.Check (goals.SafeBySteps k form) base step) none = omega (arith, none)
+prints_on_text (commands.Check (goals.Safe k form) base step) none = omega (arith, none)
+prints_on_text (commands.Check goal base step) none = omega (arith, none)
+prints_on_text c none = tt
+
+-- what was done with the text was done for the justice property
+pub ran_by_text : {R S W : Type 0} (left : R → Option (List ℕ)) (failed : R → Bool)
+    (left_of : S → Option (List ℕ)) (failed_of : S → Bool) (held : W → Option (List ℕ))
+    (write_failed : W → Bool) (limit : ℕ) (a : Justice) (c : Command) (r rest : R)
+    (files others : List S) (w made : W) (x : Result (Unit {0}) CheckError) → IsOnText c
+    → RanMade left failed left_of failed_of held write_failed limit a c r files w x rest others made
+    → RanBy left failed left_of failed_of held write_failed limit (Some a) c r files w x rest others
+    made
+ran_by_text left failed left_of failed_of held write_failed limit a (commands.Check goal base step)
+    r rest files others w made x on ran =
+    absurd on
+ran_by_text left failed left_of failed_of held write_failed limit a c r rest files others w made x
+    on ran =
+    ran
+
+-- a command that doesn't check proofs of FILE is on the text
+pub on_text : (c : Command)
+    → ((goal : Goal) (base step : Bool) → ¬ (c ≡ commands.Check goal base step)) → IsOnText c
+on_text (commands.Check goal base step) not = absurd (not goal base step refl)
+on_text c not = tt

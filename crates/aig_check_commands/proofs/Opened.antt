@@ -126,9 +126,8 @@ module _ {F : Type 0} (opens : List ℕ → Result F OpenError → Type 0) where
 pub paths_few : (c : Command) → (0 < paths_of c) × (paths_of c ≤ 2)
 paths_few (commands.File c) = (omega arith, omega arith)
 paths_few (commands.Pair c) = (omega arith, omega arith)
-paths_few (commands.Safe k form o p) = (omega arith, omega arith)
+paths_few (commands.Check goal o p) = (omega arith, omega arith)
 paths_few (commands.EqualBy comparison o) = (omega arith, omega arith)
-paths_few (commands.SafeBySteps k form o p) = (omega arith, omega arith)
 paths_few (commands.Simulated o) = (omega arith, omega arith)
 paths_few (commands.Obligation condition o) = (omega arith, omega arith)
 

@@ -1,6 +1,6 @@
 -- What a command does, at each way out of it.
-use Rattle.aig_base.proofs.Words.{◌≡◌, ◌≢◌, ℕ, ◌+◌, Bool, false, Option, Ok, Err, List, refl, sym, ap, subst, Appends}
-use Rattle.std.specs.Prelude.{IsErrOf, IsTrue, Result}
+use Rattle.aig_base.proofs.Words.{◌≡◌, ◌≢◌, ℕ, Bool, false, Option, Ok, Err, List, refl, sym, ap, subst, Appends}
+use Rattle.std.specs.Prelude.{IsErrOf, Result}
 use Rattle.std.specs.Io.KnownBytes.{IsAtEnd}
 use Rattle.aig_format.specs.File.{File}
 use Rattle.aig_reader.specs.Reading.{IsReadAs}
@@ -8,29 +8,24 @@ use Rattle.aig_reader.specs.Verdicts.{Accepted, IsOfFile, Judges, Verdict}
 use Rattle.aig_reader.proofs.Verdicts.{of_no_file, short_of}
 use Rattle.aig_output.specs.Sinks.{WritesOrStops}
 use Rattle.aig_encode.specs.declared.encoding.Encoded.{Encoded}
-use Rattle.aig_encode.specs.declared.error.EncodeError.TheVariants as encode
-use Rattle.aig_refutation.specs.declared.error.RefutationError.TheVariants as refutation
 use Rattle.aig_answers.specs.declared.error.AnswerError.{AnswerError}
-use Rattle.aig_answers.specs.declared.error.AnswerError.TheVariants as answers
 use Rattle.aig_answers.specs.Answers as asking
-use Rattle.aig_runs.specs.declared.window.Window.{Window}
-use Rattle.aig_answers.specs.Answers.{IsAsked, IsOfQuery, IsOfWindow, TellsOfStep, TellsOfWindow}
+use Rattle.aig_answers.specs.Answers.{IsOfQuery, IsOfWindow}
 use Rattle.aig_witness.specs.declared.solutions.error.SolutionError.{SolutionError}
 use Rattle.aig_witness.specs.Checked.{RefusesSolution}
 use Rattle.aig_bounded.specs.Question.{question_size}
 use Rattle.aig_answers.specs.declared.bounded_checks.error.BoundedAnswerError.{BoundedAnswerError}
 use Rattle.aig_answers.specs.declared.bounded_checks.error.BoundedAnswerError.TheVariants as bounded
 use Rattle.aig_answers.specs.Asking as bounding
-use Rattle.aig_answers.specs.Asking.{AnswersProof, IsAskedWithin, IsOfCheck, IsOfQuestion, IsOfWitness}
+use Rattle.aig_answers.specs.Asking.{IsOfQuestion, IsOfWitness}
 use Rattle.aig_check_commands.specs.Sums.{IsSum}
-use Rattle.aig_check_commands.specs.Bounded.{TellsProof}
 use Rattle.aig_check_commands.specs.declared.command.FileCommand.{FileCommand}
 use Rattle.aig_check_commands.specs.declared.command.FileCommand.TheVariants as commands
 use Rattle.aig_check_commands.specs.declared.error.CheckError.{CheckError}
 use Rattle.aig_check_commands.specs.declared.error.CheckError.TheVariants as errors
 use Rattle.aig_check_commands.specs.Printed.{EndsWith, Printed}
 use Rattle.aig_check_commands.specs.Printing.{IsKnownText, IsSolutionOf, IsTextOf, after_writing}
-use Rattle.aig_check_commands.specs.Running.{Answers, ChecksFile, IsAskedBy, IsErrorOf, IsOfFileAlone, Runs, TakesProof, TellsOfGiven, TellsOfQuestion, TellsOfSolution, file_verdict, verdict_of}
+use Rattle.aig_check_commands.specs.Running.{Answers, ChecksFile, IsAskedBy, IsErrorOf, IsOfFileAlone, Runs, TellsOfGiven, TellsOfQuestion, TellsOfSolution, file_verdict, verdict_of}
 
 pub is_error : (T E : Type 0) (e x : E) → IsErrOf {T = T} (Err e) x → e ≡ x
 is_error T E e x is = cc
@@ -38,19 +33,16 @@ is_error T E e x is = cc
 -- what an error of a query or of a window tells of a proof: nothing
 tells_of_query : (c : FileCommand) (limit : ℕ) (old new given : Option (List ℕ)) (failed : Bool)
     (e : AnswerError) → IsOfQuery e → TellsOfGiven c limit old new given failed (errors.Answer e)
-tells_of_query c limit old new given failed (answers.Refutation e) own = absurd own
 tells_of_query c limit old new given failed e own = tt
 
 tells_of_window : (c : FileCommand) (limit : ℕ) (old new given : Option (List ℕ)) (failed : Bool)
     (e : AnswerError) → IsOfWindow e → TellsOfGiven c limit old new given failed (errors.Answer e)
-tells_of_window c limit old new given failed (answers.Refutation e) own = absurd own
 tells_of_window c limit old new given failed e own = tt
 
 -- what one of a question up to a step tells of a proof: nothing
 tells_of_question : (c : FileCommand) (limit : ℕ) (old new given : Option (List ℕ)) (failed : Bool)
     (e : BoundedAnswerError) → IsOfQuestion e → TellsOfQuestion c limit old new e
     → TellsOfGiven c limit old new given failed (errors.Bounded e)
-tells_of_question c limit old new given failed (bounded.Refutation e) own size = absurd own
 tells_of_question c limit old new given failed (bounded.Solution e) own size = absurd own
 tells_of_question c limit old new given failed (bounded.Question e) own size = size
 tells_of_question c limit old new given failed e own size = tt
@@ -115,21 +107,19 @@ module _ {R P : Type 0} {left : R → Option (List ℕ)} {read_failed : R → Bo
     verdict = said;
     own = own;
     text = tt;
-    taken = tt;
     unread = unread;
     refusal = tells;
   }
 
   -- it is answered
-  checks_answered : (text : List ℕ) → TakesProof c limit (left r) (left rest) (given p)
+  checks_answered : (text : List ℕ)
       → Judges (file_verdict c limit) limit (left r) (left rest) (read_failed rest) Accepted
       → IsReadAs (IsAskedBy c limit) (Answers c (given p) (left r)) (left r) (left rest) text
       → ChecksFile left read_failed given given_failed c limit r p rest used (Ok text)
-  checks_answered text takes said answers = record {
+  checks_answered text said answers = record {
     verdict = said;
     own = tt;
     text = answers;
-    taken = takes;
     unread = tt;
     refusal = tt;
   }
@@ -180,29 +170,27 @@ module _ {R P W : Type 0} {left : R → Option (List ℕ)} {read_failed : R → 
 
   -- the answer was written, or a beginning of it
   pub answer_ends : {E : Type 0} (x : Result (Unit {0}) E) (text : List ℕ)
-      → TakesProof c limit (left r) (left rest) (given p)
       → Judges (file_verdict c limit) limit (left r) (left rest) (read_failed rest) Accepted
       → IsReadAs (IsAskedBy c limit) (Answers c (given p) (left r)) (left r) (left rest) text
       → WritesOrStops held write_failed w x text made
       → Runs left read_failed given given_failed held write_failed c limit r p w (after_writing x)
       rest used made
-  answer_ends x text takes said answers writes =
-      text_printed x text (checks_answered text takes said answers) writes
+  answer_ends x text said answers writes =
+      text_printed x text (checks_answered text said answers) writes
 
   -- a query's text was printed, or memory ran out before
   pub text_ends : (result : Result Unit CheckError) (IsSuch : List ℕ → Type 0)
-      → TakesProof c limit (left r) (left rest) (given p)
       → Judges (file_verdict c limit) limit (left r) (left rest) (read_failed rest) Accepted
       → ((text : List ℕ) → IsSuch text → IsReadAs (IsAskedBy c limit) (Answers c (given p) (left r))
       (left r) (left rest) text)
       → Printed held write_failed (IsTextOf IsSuch) w result made → IsErrorOf c errors.Memory
       → Runs left read_failed given given_failed held write_failed c limit r p w result rest used
       made
-  text_ends result IsSuch takes said answers prints has = printed_on on (λ x ends. ends) prints
+  text_ends result IsSuch said answers prints has = printed_on on (λ x ends. ends) prints
     where
       on : (x : Result (List ℕ) CheckError) → IsTextOf IsSuch x
           → ChecksFile left read_failed given given_failed c limit r p rest used x
-      on (Ok text) is = checks_answered text takes said (answers text is)
+      on (Ok text) is = checks_answered text said (answers text is)
       on (Err e) is = subst (λ (y : CheckError).
           ChecksFile left read_failed given given_failed c limit r p rest used (Err y)) (sym is)
           (checks_refused errors.Memory
@@ -211,7 +199,6 @@ module _ {R P W : Type 0} {left : R → Option (List ℕ)} {read_failed : R → 
 
   -- a witness was printed, or a solver's answer was refused before
   pub solution_ends : (result : Result Unit CheckError) (x : Encoded) (k : ℕ)
-      → TakesProof c limit (left r) (left rest) (given p)
       → Judges (file_verdict c limit) limit (left r) (left rest) (read_failed rest) Accepted
       → ((text : List ℕ) → IsKnownText (given p) x k text
       → IsReadAs (IsAskedBy c limit) (Answers c (given p) (left r)) (left r) (left rest) text)
@@ -221,13 +208,13 @@ module _ {R P W : Type 0} {left : R → Option (List ℕ)} {read_failed : R → 
       → TellsOfSolution c limit (left r) (left rest) (given p) (given_failed used) e)
       → Runs left read_failed given given_failed held write_failed c limit r p w result rest used
       made
-  solution_ends result x k takes said answers prints has tells =
+  solution_ends result x k said answers prints has tells =
       printed_on on (λ y ends. ends) prints
     where
       on : (y : Result (List ℕ) CheckError)
           → IsSolutionOf (given p) (given_failed used) x k y
           → ChecksFile left read_failed given given_failed c limit r p rest used y
-      on (Ok text) is = checks_answered text takes said (answers text is)
+      on (Ok text) is = checks_answered text said (answers text is)
       on (Err (errors.Solution e)) is =
           checks_refused (errors.Solution e) said (has e) (λ alone. absurd alone) (tells e is)
       on (Err e) is = absurd is
@@ -262,16 +249,6 @@ read_again read so = record {
 pub err_of : {T E : Type 0} (e x : E) → e ≡ x → IsErrOf {T = T} (Err e) x
 err_of {T} {E} e x is = let error : E → Result T E = λ y. Err y in ap error is
 
--- an answer's error that is of the file alone says that the file isn't taken
-pub refuses_file : (e : AnswerError) → IsOfFileAlone (errors.Answer e) → asking.verdict_of e ≢
-    Accepted
-refuses_file (answers.Encode (encode.Read e)) alone is = of_no_file e (subst IsOfFile (sym is) tt)
-refuses_file (answers.Encode encode.Memory) alone is = cc
-refuses_file (answers.Encode encode.TooLarge) alone is = cc
-refuses_file answers.NoBads alone is = cc
-refuses_file answers.TooLarge alone is = cc
-refuses_file (answers.Refutation e) alone is = alone
-
 -- an error of a question up to a step that is of the file alone
 pub refuses_bounded : (e : BoundedAnswerError) → IsOfFileAlone (errors.Bounded e) →
     bounding.verdict_of e ≢ Accepted
@@ -281,70 +258,12 @@ refuses_bounded (bounded.Question e) alone is = cc
 refuses_bounded (bounded.Refutation e) alone is = alone
 refuses_bounded (bounded.Solution e) alone is = alone
 
--- what an error tells of a proof up to a step
-pub tells_of_bounded : (k limit : ℕ) (optimize : Bool) (old new given : Option (List ℕ)) (failed :
-    Bool) (e : BoundedAnswerError) → IsOfCheck e
-    → (bounding.verdict_of e ≡ Accepted → IsReadAs (IsAskedWithin limit) (TellsProof given k
-    optimize) old new (Err e))
-    → (e ≡ bounded.Refutation refutation.Stream → IsTrue failed)
-    → bounding.TellsOfSize limit (λ c. question_size c k) old new e
-    → TellsOfGiven (commands.RefutedTo k optimize) limit old new given failed (errors.Bounded e)
-tells_of_bounded k limit optimize old new given failed (bounded.Solution e) own told stream size =
-    absurd own
-tells_of_bounded k limit optimize old new given failed (bounded.Refutation e) own told stream size =
-    (told refl, λ is. stream (ap (λ x. bounded.Refutation x) is))
-tells_of_bounded k limit optimize old new given failed (bounded.Question e) own told stream size =
-    size
-tells_of_bounded k limit optimize old new given failed e own told stream size = tt
-
--- and of a solver's answer
+-- what an error tells of a solver's answer
 pub tells_of_answer : (k limit : ℕ) (optimize : Bool) (old new given : Option (List ℕ)) (failed :
     Bool) (e : BoundedAnswerError) → IsOfWitness e
     → bounding.TellsOfSolution limit k optimize old new given failed e
     → bounding.TellsOfSize limit (λ c. question_size c k) old new e
     → TellsOfGiven (commands.WitnessTo k optimize) limit old new given failed (errors.Bounded e)
-tells_of_answer k limit optimize old new given failed (bounded.Refutation e) own told size = absurd
-    own
 tells_of_answer k limit optimize old new given failed (bounded.Solution e) own told size = told
 tells_of_answer k limit optimize old new given failed (bounded.Question e) own told size = size
 tells_of_answer k limit optimize old new given failed e own told size = tt
-
--- what an error tells of a proof about a step, or about a window
-module _ (k limit : ℕ) (optimize : Bool) (old new given : Option (List ℕ)) (failed : Bool) where
-  pub tells_of_step : (e : AnswerError)
-      → (asking.verdict_of e ≡ Accepted → IsReadAs (IsAsked limit k) (TellsOfStep k optimize given)
-      old new (Err e))
-      → (e ≡ answers.Refutation refutation.Stream → IsTrue failed)
-      → TellsOfGiven (commands.Refuted k optimize) limit old new given failed (errors.Answer e)
-  tells_of_step (answers.Refutation e) told stream = (
-    told refl,
-    λ is. stream (ap (λ x.
-        answers.Refutation x) is),
-  )
-  tells_of_step e told stream = tt
-
-  pub tells_of_induction : (form : Window) (e : AnswerError)
-      → (asking.verdict_of e ≡ Accepted → IsReadAs (IsAsked limit (k + 1)) (TellsOfWindow form k
-      optimize given) old new (Err e))
-      → (e ≡ answers.Refutation refutation.Stream → IsTrue failed)
-      → TellsOfGiven (commands.Inductive k form optimize) limit old new given failed (errors.Answer
-      e)
-  tells_of_induction form (answers.Refutation e) told stream = (
-    told refl,
-    λ is. stream (ap (λ x.
-        answers.Refutation x) is),
-  )
-  tells_of_induction form e told stream = tt
-
--- what is told of a proof up to a step
-pub proof_told : {P : Type 0} {left : P → Option (List ℕ)} {limit k : ℕ} {optimize : Bool} {old new
-    : Option (List ℕ)} {p used : P} {result : Result Unit BoundedAnswerError}
-    → IsReadAs (IsAskedWithin limit) (AnswersProof left k optimize p used) old new result
-    → IsReadAs (IsAskedWithin limit) (TellsProof (left p) k optimize) old new result
-proof_told read = read_again read (λ bytes f holds told. record {
-  made = told.0.0;
-  asks = told.0.1;
-  settled = λ other asks settled. ((told.1 other asks).settled settled).0;
-  shown = λ other asks.
-      (told.1 other asks).shown;
-})

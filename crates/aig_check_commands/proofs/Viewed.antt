@@ -1,10 +1,7 @@
 -- What a command does is so of what is seen of its files: of their bytes alone.
-use Rattle.aig_base.proofs.Words.{◌≡◌, ℕ, ◌+◌, Bool, true, false, List, [], ◌∷◌, Option, None, Some, Ok, Err, ap, fun_ext, map, map-append, refl, subst, sym, ◌∙◌}
-use Rattle.std.specs.Prelude.{IfErr, IfOk, IsTrue, Result, option_map, slice_get}
+use Rattle.aig_base.proofs.Words.{inl, inr, ◌≡◌, ℕ, ◌+◌, Bool, true, false, List, [], ◌∷◌, Option, None, Some, Ok, Err, ap, fun_ext, map, refl, subst, sym, ◌∙◌}
+use Rattle.std.specs.Prelude.{IfErr, IsTrue, Result, option_map}
 use Rattle.std.proofs.lemmas.Option.{slice_get-map}
-use Rattle.aig_answers.specs.Answers.{TellsOfStep, TellsOfWindow}
-use Rattle.aig_answers.specs.Asking.{AnswersCircuit}
-use Rattle.aig_answers.specs.declared.bounded_checks.error.BoundedAnswerError.{BoundedAnswerError}
 use Rattle.aig_answers.specs.Comparing.{CertifiesMiter, EqualsBy}
 use Rattle.aig_answers.specs.declared.certificates.compare_error.MiterError.{MiterError}
 use Rattle.aig_answers.specs.declared.certificates.compare_error.MiterError.TheVariants as miter
@@ -13,13 +10,6 @@ use Rattle.aig_circuit.specs.Circuit.{Circuit}
 use Rattle.aig_format.specs.File.{File}
 use Rattle.aig_join.specs.declared.comparison.Comparison.{Comparison}
 use Rattle.aig_reader.specs.Reading.{IsReadAs}
-use Rattle.aig_runs.specs.declared.window.Window.{Window}
-use Rattle.aig_answers.specs.Safety.{Shows, ShowsCircuit}
-use Rattle.aig_answers.specs.declared.safety.error.SafetyError.{SafetyError}
-use Rattle.aig_answers.specs.Steps.{AreTaken, HasAt, Show, ShowEach, Told}
-use Rattle.aig_answers.specs.declared.safety.error.SafetyError.TheVariants as proving
-use Rattle.aig_answers.specs.declared.safety.error.StepsError.{StepsError}
-use Rattle.aig_answers.specs.declared.safety.error.StepsError.TheVariants as stepping
 use Rattle.aig_check_commands.specs.declared.command.Asked.{Asked}
 use Rattle.aig_check_commands.specs.declared.command.Command.{Command}
 use Rattle.aig_check_commands.specs.declared.command.Command.TheVariants as commands
@@ -31,20 +21,29 @@ use Rattle.aig_check_commands.specs.Comparing.{ChecksComparing, TellsOfComparing
 use Rattle.aig_check_commands.specs.Acting.{RanBy, RanOn}
 use Rattle.aig_check_commands.specs.declared.justice.Justice.{Justice}
 use Rattle.aig_check_commands.specs.Inputs.{Ran, bytes_of, has_failed}
-use Rattle.aig_check_commands.specs.Living.{ChecksText, Concludes, MeansMade, PrintsMade, ShowsFair, TellsMade, fair_line}
+use Rattle.aig_check_commands.specs.Living.{ChecksText, Concludes, MeansMade, PrintsMade, TellsMade}
+use Rattle.aig_check_commands.specs.Checked.{ChecksGoal, ChecksWithin, TellsOfGoal}
+use Rattle.aig_check_commands.specs.Goals.{no_run_line, plan_of}
+use Rattle.aig_check_commands.specs.declared.goals.Goal.{Goal}
+use Rattle.aig_edit_laws.specs.Fair.{HasFairRun}
+use Rattle.aig_answers.specs.Plans.{AnswersAt, AreUnread, ChecksCircuit, IsHeld, Tells}
+use Rattle.aig_answers.specs.declared.plans.asking.Question.{Question}
+use Rattle.aig_answers.specs.declared.plans.errors.PlanError.{PlanError}
+use Rattle.aig_answers.specs.declared.plans.errors.PlanError.TheVariants as plans
+use Rattle.aig_answers.specs.declared.plans.errors.Why.{Why}
+use Rattle.aig_answers.specs.declared.plans.errors.Why.TheVariants as whys
+use Rattle.aig_answers.specs.declared.windows.WindowClauses.{WindowClauses}
+use Rattle.aig_refutation.specs.declared.error.RefutationError.{RefutationError}
 use Rattle.aig_check_commands.specs.CommandWords.{prints}
 use Rattle.aig_check_commands.specs.Printed.{Printed}
 use Rattle.aig_check_commands.specs.Pairs.{ChecksPair}
 use Rattle.aig_check_commands.specs.Running.{ChecksFile, nothing_fails, nothing_given}
-use Rattle.aig_check_commands.specs.Safe.{ChecksSafe, TellsWhy}
 use Rattle.aig_check_commands.specs.Simulating.{LeavesProof, RunsObligation, RunsSimulated, TellsOfSimulated}
 use Rattle.aig_simulated.specs.Simulated.{Proofs, proof_for, proofs_of}
 use Rattle.aig_simulation.specs.declared.condition.Condition.{Condition}
 use Rattle.aig_simulation.specs.declared.condition.Condition.TheVariants as conditions
 use Rattle.aig_check_commands.proofs.Outcomes.{printed_on}
 use Rattle.aig_check_commands.proofs.Pairing.{reads_under}
-use Rattle.aig_check_commands.specs.SafeBySteps as by_steps
-use Rattle.aig_check_commands.specs.SafeBySteps.{ChecksSteps}
 
 -- a value of the same file, with another meaning
 pub read_as : {T U : Type 0} {Holds : List ℕ → File → Type 0} (Means : File → T → Type 0)
@@ -58,13 +57,6 @@ read_as Means Other so was = record {
   means = so was.file was.means;
   taken = was.taken;
 }
-
--- what holds of a text may be another thing that follows
-if_ok : {P Q : List ℕ → Type 0} (x : Result (List ℕ) CheckError)
-    → ((text : List ℕ) → P text → Q text)
-    → IfOk x P → IfOk x Q
-if_ok (Ok text) so is = so text is
-if_ok (Err e) so is = tt
 
 -- it is printed as before
 still_printed : {W : Type 0} {held : W → Option (List ℕ)} {failed : W → Bool}
@@ -81,105 +73,63 @@ left_as : {P Q : Type 0} (on : P → Q) (Leaves : CheckError → Type 0) (p used
 left_as on Leaves p used (Ok u) unread = tt
 left_as on Leaves p used (Err e) unread = λ is. ap on (unread is)
 
-module _ {P B : Type 0} (by : P → B) (base_left : B → Option (List ℕ)) (k : ℕ) (optimize : Bool)
-    (p used : P) where
-  pub base_seen : (c : Circuit) (x : Result (Unit {0}) BoundedAnswerError)
-      → AnswersCircuit (λ y. base_left (by y)) k optimize p used c x
-      → AnswersCircuit base_left k optimize (by p) (by used) c x
-  base_seen c x told = (
-    told.0,
-    λ made asks.
-        let of = told.1 made asks in
-        record {
-          settled = λ is. ((of.settled is).0, ap by (of.settled is).1);
-          shown = of.shown;
-        },
-  )
+-- a question is answered so as its proof is seen
+module _ {S B : Type 0} (on : S → B) (left : B → Option (List ℕ)) (failed : B → Bool) where
+  held_seen : (made : Option WindowClauses) (p rest : S) (x : Result (Unit {0}) RefutationError)
+      → IsHeld (λ y. left (on y)) (λ y. failed (on y)) made p rest x
+      → IsHeld left failed made (on p) (on rest) x
+  held_seen (Some made) p rest x told = told
+  held_seen None p rest x told = (told.0, ap on told.1)
 
-module _ {P Q B C : Type 0} (by : P → B) (base_left : B → Option (List ℕ)) (at : Q → C)
-    (step_left : C → Option (List ℕ)) (k : ℕ) (form : Window) (base_optimize step_optimize : Bool)
-    (p used : P) (q : Q) where
-  pub circuit_seen : (c : Circuit) (x : Result (Unit {0}) SafetyError)
-      → ShowsCircuit (λ y. base_left (by y)) (λ y. step_left (at y)) k base_optimize form
-      step_optimize p used q c x
-      → ShowsCircuit base_left step_left k base_optimize form step_optimize (by p) (by used)
-      (at q) c x
-  circuit_seen c (Ok u) told =
-      (base_seen by base_left k base_optimize p used c (Ok tt) told.0, told.1)
-  circuit_seen c (Err (proving.File e)) told = absurd told
-  circuit_seen c (Err (proving.Base e)) told =
-      base_seen by base_left k base_optimize p used c (Err e) told
-  circuit_seen c (Err (proving.Step e)) told =
-      (base_seen by base_left k base_optimize p used c (Ok tt) told.0, told.1)
+  told_of_seen : (limit : ℕ) (q : Question) (c : Circuit) (p rest : S) (x : Result (Unit {0}) Why)
+      → Tells (λ y. left (on y)) (λ y. failed (on y)) limit q c p rest x
+      → Tells left failed limit q c (on p) (on rest) x
+  told_of_seen limit q c p rest (Ok u) told =
+      (told.0, told.1, told.2, held_seen told.0 p rest (Ok tt) told.3)
+  told_of_seen limit q c p rest (Err (whys.Refutation e)) told =
+      (told.0, told.1, held_seen told.0 p rest (Err e) told.2)
+  told_of_seen limit q c p rest (Err (whys.Clauses e)) told = (ap on told.0, told.1)
 
-  shown_seen : (f : File) (x : Result (Unit {0}) SafetyError)
-      → Shows (λ y. base_left (by y)) (λ y. step_left (at y)) k base_optimize form step_optimize p
-      used q f x
-      → Shows base_left step_left k base_optimize form step_optimize (by p) (by used) (at q) f x
-  shown_seen f (Ok u) told = (told.0, circuit_seen _ (Ok tt) told.1)
-  shown_seen f (Err e) told = circuit_seen _ (Err e) told
+  -- so is a plan
+  module _ (limit : ℕ) (plan : List Question) (c : Circuit) (proofs others : List S) where
+    at_seen : (n : ℕ) (x : Result (Unit {0}) Why)
+        → AnswersAt (λ y. left (on y)) (λ y. failed (on y)) limit plan c proofs others n x
+        → AnswersAt left failed limit plan c (map on proofs) (map on others) n x
+    at_seen n x at = record {
+      question = at.question;
+      proof = on at.proof;
+      rest = on at.rest;
+      asked = at.asked;
+      was = slice_get-map on proofs n ∙ ap (option_map on) at.was;
+      is = slice_get-map on others n ∙ ap (option_map on) at.is;
+      tells = told_of_seen limit at.question c at.proof at.rest x at.tells;
+    }
 
-  why_seen : (limit : ℕ) (old new : Option (List ℕ)) (x : Result (List ℕ) CheckError)
-      → IfErr x (TellsWhy (Shows (λ y. base_left (by y)) (λ y. step_left (at y)) k base_optimize
-      form step_optimize p used q) limit k old new)
-      → IfErr x (TellsWhy (Shows base_left step_left k base_optimize form step_optimize (by p)
-      (by used) (at q)) limit k old new)
-  why_seen limit old new (Ok u) told = tt
-  why_seen limit old new (Err (errors.Safe e)) told =
-      (λ is. read_as _ _ (λ f. shown_seen f (Err e)) (told.0 is), told.1)
-  why_seen limit old new (Err e) told = told
+    unread_seen : (n : ℕ) → AreUnread proofs others n
+        → AreUnread (map on proofs) (map on others) n
+    unread_seen n unread i low =
+        slice_get-map on others i ∙ ap (option_map on) (unread i low)
+        ∙ sym (slice_get-map on proofs i)
 
--- what holds of one of a list holds of it as it is seen
-at_seen : {A B : Type 0} (on : A → B) (xs : List A) (n : ℕ) (Holds : B → Type 0)
-    → HasAt xs n (λ x. Holds (on x)) → HasAt (map on xs) n Holds
-at_seen on xs n Holds at = (on at.0, slice_get-map on xs n ∙ ap (option_map on) at.1, at.2)
+    plan_seen : (x : Result (Unit {0}) PlanError)
+        → ChecksCircuit (λ y. left (on y)) (λ y. failed (on y)) limit plan c proofs others x
+        → ChecksCircuit left failed limit plan c (map on proofs) (map on others) x
+    plan_seen (Ok u) told = (told.0, λ n low. at_seen n (Ok tt) (told.1 n low))
+    plan_seen (Err (plans.Refused e)) told = (
+      told.0,
+      (
+        λ n low. at_seen n (Ok tt) (told.1.0 n low),
+        at_seen e.index (Err e.why) told.1.1,
+        unread_seen (e.index + 1) told.1.2,
+      ),
+    )
+    plan_seen (Err e) told = (told.0, ap (λ (l : List S). map on l) told.1)
 
-module _ {S B : Type 0} (on : S → B) (left_of : B → Option (List ℕ)) (k : ℕ) (form : Window)
-    (base_optimize step_optimize : Bool) (bases : List S) (step : S) where
-  taken_seen : (OfStep : ℕ → Told) (n : ℕ) → AreTaken (λ y. left_of (on y)) OfStep bases n
-      → AreTaken left_of OfStep (map on bases) n
-  taken_seen OfStep n taken j low =
-      at_seen on bases j (λ y. OfStep j (left_of y) (Ok tt)) (taken j low)
-
-  each_seen : (OfStep : ℕ → Told) (OfWindow : Told) (x : Result (Unit {0}) StepsError)
-      → ShowEach (λ y. left_of (on y)) (λ y. left_of (on y)) OfStep OfWindow k bases step x
-      → ShowEach left_of left_of OfStep OfWindow k (map on bases) (on step) x
-  each_seen OfStep OfWindow (Ok u) told = (taken_seen OfStep (k + 1) told.0, told.1)
-  each_seen OfStep OfWindow (Err (stepping.File e)) told = absurd told
-  each_seen OfStep OfWindow (Err (stepping.At n e)) told =
-      (taken_seen OfStep n told.0, at_seen on bases n (λ y. OfStep n (left_of y) (Err e)) told.1)
-  each_seen OfStep OfWindow (Err (stepping.Step e)) told =
-      (taken_seen OfStep (k + 1) told.0, told.1)
-
-  show_seen : (f : File) (x : Result (Unit {0}) StepsError)
-      → Show (λ y. left_of (on y)) (λ y. left_of (on y)) k base_optimize form step_optimize bases
-      step f x
-      → Show left_of left_of k base_optimize form step_optimize (map on bases) (on step) f x
-  show_seen f x told = (
-    told.0,
-    each_seen (λ n text. TellsOfStep n base_optimize text f)
-        (λ text. TellsOfWindow form k step_optimize text f) x told.1,
-  )
-
-  tells_seen : (limit : ℕ) (old new : Option (List ℕ)) (x : Result (List ℕ) CheckError)
-      → IfErr x (by_steps.TellsWhy (Show (λ y. left_of (on y)) (λ y. left_of (on y)) k
-      base_optimize form step_optimize bases step) limit k old new)
-      → IfErr x (by_steps.TellsWhy (Show left_of left_of k base_optimize form step_optimize
-      (map on bases) (on step)) limit k old new)
-  tells_seen limit old new (Ok u) told = tt
-  tells_seen limit old new (Err (errors.Steps e)) told =
-      λ is. read_as _ _ (λ f. show_seen f (Err e)) (told is)
-  tells_seen limit old new (Err e) told = told
-
-  -- so are those that aren't read
-  bases_left : (used : List S) (x : Result (List ℕ) CheckError)
-      → IfErr x (λ e. (n : ℕ) → by_steps.LeavesBase n e → slice_get used n ≡ slice_get bases n)
-      → IfErr x (λ e. (n : ℕ) → by_steps.LeavesBase n e
-      → slice_get (map on used) n ≡ slice_get (map on bases) n)
-  bases_left used (Ok u) unread = tt
-  bases_left used (Err e) unread =
-      λ n is. slice_get-map on used n ∙ ap (option_map on) (unread n is)
-      ∙ sym (slice_get-map on bases n)
+    within_seen : (x : Result (Unit {0}) PlanError)
+        → ChecksWithin (λ y. left (on y)) (λ y. failed (on y)) limit plan c proofs others x
+        → ChecksWithin left failed limit plan c (map on proofs) (map on others) x
+    within_seen x (inl many) = inl (many.0, many.1, ap (λ (l : List S). map on l) many.2)
+    within_seen x (inr within) = inr (within.0, plan_seen x within.1)
 
 module _ {S B : Type 0} (on : S → B) (left_of : B → Option (List ℕ)) (failed_of : B → Bool)
     (comparison : Comparison) (optimize : Bool) (limit : ℕ) (base step : Option (List ℕ)) (c tried : S) where
@@ -207,6 +157,34 @@ module _ {S B : Type 0} (on : S → B) (left_of : B → Option (List ℕ)) (fail
   told_seen f g (Ok text) told = (told.0, equals_seen f g (Ok tt) told.1)
   told_seen f g (Err (errors.Miter e)) told = equals_seen f g (Err e) told
   told_seen f g (Err e) told = absurd told
+
+-- so are the proofs of a goal
+module _ {S B : Type 0} (on : S → B) (left : B → Option (List ℕ)) (failed : B → Bool) (limit : ℕ)
+    (a : Option Justice) (goal : Goal) (base step : Bool) (proofs others : List S) (f : File) where
+  goal_told : (x : Result (List ℕ) CheckError)
+      → TellsOfGoal (λ y. left (on y)) (λ y. failed (on y)) limit a goal base step proofs others f x
+      → TellsOfGoal left failed limit a goal base step (map on proofs) (map on others) f x
+  goal_told (Ok text) told = (
+    told.0,
+    told.1,
+    (
+      told.2.0,
+      told.2.1,
+      within_seen on left failed limit (plan_of goal base step) told.2.0 proofs others (Ok tt)
+          told.2.2,
+    ),
+  )
+  goal_told (Err (errors.Goal e)) told = (
+    told.0,
+    (
+      told.1.0,
+      told.1.1,
+      within_seen on left failed limit (plan_of goal base step) told.1.0 proofs others (Err e.error)
+          told.1.2,
+    ),
+  )
+  goal_told (Err (errors.Unmade e)) told = told
+  goal_told (Err e) told = told
 
 -- proofs as they are seen
 abbrev proofs_seen_as : {S B : Type 0} → (S → B) → Proofs S → Proofs B
@@ -259,7 +237,6 @@ module _ {R A : Type 0} (to : R → A) (left : A → Option (List ℕ)) (failed 
     verdict = told.verdict;
     own = told.own;
     text = told.text;
-    taken = told.taken;
     unread = left_as on _ p used x told.unread;
     refusal = told.refusal;
   }
@@ -284,56 +261,21 @@ module _ {R A : Type 0} (to : R → A) (left : A → Option (List ℕ)) (failed 
         miter_step_stream = told.miter_step_stream;
       }
 
-  module _ {P Q B C : Type 0} (by : P → B) (base_left : B → Option (List ℕ))
-      (base_failed : B → Bool) (at : Q → C) (step_left : C → Option (List ℕ))
-      (step_failed : C → Bool) {k : ℕ} {form : Window} {base_optimize step_optimize : Bool}
-      {p used : P} {q spent : Q} where
-    pub proofs_seen : ChecksSafe (λ y. left (to y)) (λ y. failed (to y)) (λ y. base_left (by y))
-        (λ y. base_failed (by y)) (λ y. step_left (at y)) (λ y. step_failed (at y)) k form
-        base_optimize step_optimize limit r p q rest used spent x
-        → ChecksSafe left failed base_left base_failed step_left step_failed k form base_optimize
-        step_optimize limit (to r) (by p) (at q) (to rest) (by used) (at spent) x
-    proofs_seen told = record {
-      verdict = told.verdict;
-      own = told.own;
-      text = if_ok x (λ text is. (
-        is.0,
-        read_as _ _ (λ f. shown_seen by base_left at step_left k form
-            base_optimize step_optimize p used q f (Ok tt)) is.1,
-      )) told.text;
-      refusal = why_seen by base_left at step_left k form base_optimize step_optimize p used q limit
-          (left (to r)) (left (to rest)) x told.refusal;
-      base_unread = left_as by _ p used x told.base_unread;
-      step_unread = left_as at _ q spent x told.step_unread;
-      base_stream = told.base_stream;
-      step_stream = told.step_stream;
-    }
-
   module _ {S B : Type 0} (on : S → B) (left_of : B → Option (List ℕ)) (failed_of : B → Bool) where
-    steps_seen : {k : ℕ} {form : Window} {base_optimize step_optimize : Bool} {bases used : List S}
-        {step spent : S}
-        → ChecksSteps (λ y. left (to y)) (λ y. failed (to y)) (λ y. left_of (on y))
-        (λ y. failed_of (on y)) (λ y. left_of (on y)) (λ y. failed_of (on y)) k form base_optimize
-        step_optimize limit r bases step rest used spent x
-        → ChecksSteps left failed left_of failed_of left_of failed_of k form base_optimize
-        step_optimize limit (to r) (map on bases) (on step) (to rest) (map on used) (on spent) x
-    steps_seen {k = k} {form = form} {base_optimize = base} {step_optimize = window} {bases = bases}
-        {used = used} {step = step} {spent = spent} told = record {
-          verdict = told.verdict;
-          own = told.own;
-          text = if_ok x (λ text is. (
-            is.0,
-            read_as _ _ (λ f. show_seen on left_of k form base window
-                bases step f (Ok tt)) is.1,
-          )) told.text;
-          refusal = tells_seen on left_of k form base window bases step limit (left (to r))
-              (left (to rest)) x told.refusal;
-          base_unread = bases_left on left_of k form base window bases step used x told.base_unread;
-          step_unread = left_as on _ step spent x told.step_unread;
-          base_stream = λ n is.
-              at_seen on used n (λ p. IsTrue (failed_of p)) (told.base_stream n is);
-          step_stream = told.step_stream;
-        }
+    module _ (a : Option Justice) (goal : Goal) (base step : Bool) (proofs others : List S) where
+      pub goal_seen : ChecksGoal (λ y. left (to y)) (λ y. failed (to y)) (λ y. left_of (on y))
+          (λ y. failed_of (on y)) limit a goal base step r proofs rest others x
+          → ChecksGoal left failed left_of failed_of limit a goal base step (to r) (map on proofs)
+          (to rest) (map on others) x
+      goal_seen told = record {
+        reads = record {
+          verdict = told.reads.verdict;
+          answer = λ is. read_as _ _ (λ f. goal_told on left_of failed_of limit a goal base step
+              proofs others f x) (told.reads.answer is);
+          own = told.reads.own;
+        };
+        unread = left_as (λ (l : List S). map on l) _ proofs others x told.unread;
+      }
 
     pub miter_seen : {comparison : Comparison} {optimize : Bool} {s other c tried p used q spent : S}
         → ChecksComparing (λ y. left (to y)) (λ y. failed (to y)) (λ y. left_of (on y))
@@ -435,20 +377,9 @@ module _ {R A : Type 0} (to : R → A) (left : A → Option (List ℕ)) (failed 
   ran_seen on left_of failed_of (commands.Pair c) (s ∷ p ∷ q ∷ []) (other ∷ used ∷ spent ∷ []) ran =
       still_printed (λ x. two_seen to left failed x on left_of failed_of on left_of failed_of on
       left_of failed_of) ran
-  ran_seen on left_of failed_of (commands.Safe k form base_optimize step_optimize) (p ∷ q ∷ [])
-      (used ∷ spent ∷ []) ran =
-      still_printed (λ x. proofs_seen to left failed x on left_of failed_of on left_of failed_of) ran
-  ran_seen on left_of failed_of (commands.SafeBySteps k form base_optimize step_optimize) proofs
-      others ran = record {
-        bases = map on ran.bases;
-        step = on ran.step;
-        are = ap (λ (l : List _). map on l) ran.are ∙ map-append on ran.bases (ran.step ∷ []);
-        used = map on ran.used;
-        spent = on ran.spent;
-        become = ap (λ (l : List _). map on l) ran.become
-            ∙ map-append on ran.used (ran.spent ∷ []);
-        runs = still_printed (λ x. steps_seen to left failed x on left_of failed_of) ran.runs;
-      }
+  ran_seen on left_of failed_of (commands.Check goal base step) proofs others ran =
+      still_printed (λ x. goal_seen to left failed x on left_of failed_of None goal base step proofs
+      others) ran
   ran_seen on left_of failed_of (commands.EqualBy comparison optimize) (s ∷ c ∷ p ∷ q ∷ [])
       (other ∷ tried ∷ used ∷ spent ∷ []) ran =
       still_printed (λ x. miter_seen to left failed x on left_of failed_of) ran
@@ -499,18 +430,18 @@ module _ {S B : Type 0} (on : S → B) (left_of : B → Option (List ℕ)) (fail
   )
 
 module _ {S B : Type 0} (on : S → B) (left_of : B → Option (List ℕ)) (failed_of : B → Bool)
-    {W : Type 0} (held : W → Option (List ℕ)) (write_failed : W → Bool) (limit : ℕ) (c : Command)
+    {W : Type 0} (held : W → Option (List ℕ)) (write_failed : W → Bool) (limit : ℕ)
     (files others : List S) (w made : W) where
-  means_seen : (b : Bool) (property : ℕ) (x : Result (Unit {0}) CheckError) (f : File)
+  means_seen : (c : Command) (b : Bool) (property : ℕ) (x : Result (Unit {0}) CheckError) (f : File)
       (text : List ℕ)
       → MeansMade b (λ y. left_of (on y)) (λ y. failed_of (on y)) held write_failed limit property c
       files others w made f text x
       → MeansMade b left_of failed_of held write_failed limit property c (map on files)
       (map on others) w made f text x
-  means_seen true property x f text told =
+  means_seen c true property x f text told =
       prints_seen on left_of failed_of limit c files others held write_failed w made text x told
-  means_seen false property x f text told =
-      concludes_on held write_failed (fair_line c property) (ShowsFair c property f)
+  means_seen c false property x f text told =
+      concludes_on held write_failed (no_run_line property) (¬ HasFairRun f property)
       (ChecksText (λ y. left_of (on y)) (λ y. failed_of (on y)) limit c files others text)
       (ChecksText left_of failed_of limit c (map on files) (map on others) text) w made
       (λ y checks. (
@@ -527,27 +458,31 @@ module _ {S B : Type 0} (on : S → B) (left_of : B → Option (List ℕ)) (fail
       λ is. (ap (λ (xs : List S). map on xs) (unread is).0, (unread is).1)
 
   -- what is asked is seen so
-  by_seen : {R A : Type 0} (to : R → A) (left : A → Option (List ℕ)) (failed : A → Bool)
-      (asked : Option Justice) (r rest : R) (x : Result (Unit {0}) CheckError)
-      → RanBy (λ y. left (to y)) (λ y. failed (to y)) (λ y. left_of (on y)) (λ y. failed_of (on y))
-      held write_failed limit asked c r files w x rest others made
-      → RanBy left failed left_of failed_of held write_failed limit asked c (to r) (map on files) w
-      x (to rest) (map on others) made
-  by_seen to left failed None r rest x ran =
-      ran_seen to left failed held write_failed limit r rest w made x on left_of failed_of c files
-      others ran
-  by_seen to left failed (Some a) r rest x ran = record {
-    reads = record {
-      verdict = ran.reads.verdict;
-      answer = λ is. read_as _ _ (tells_on a
-          (MeansMade (prints c) (λ y. left_of (on y)) (λ y. failed_of (on y)) held write_failed limit
-          a.property c files others w made)
-          (MeansMade (prints c) left_of failed_of held write_failed limit a.property c (map on files)
-          (map on others) w made) x (means_seen (prints c) a.property x)) (ran.reads.answer is);
-      own = ran.reads.own;
-    };
-    unread = made_unread _ x ran.unread;
-  }
+  module _ {R A : Type 0} (to : R → A) (left : A → Option (List ℕ)) (failed : A → Bool)
+      (r rest : R) (x : Result (Unit {0}) CheckError) where
+    by_seen : (c : Command) (asked : Option Justice)
+        → RanBy (λ y. left (to y)) (λ y. failed (to y)) (λ y. left_of (on y)) (λ y. failed_of (on y))
+        held write_failed limit asked c r files w x rest others made
+        → RanBy left failed left_of failed_of held write_failed limit asked c (to r) (map on files) w
+        x (to rest) (map on others) made
+    by_seen c None ran =
+        ran_seen to left failed held write_failed limit r rest w made x on left_of failed_of c files
+        others ran
+    by_seen (commands.Check goal base step) (Some a) ran =
+        still_printed (λ y. goal_seen to left failed y on left_of failed_of (Some a) goal base step
+        files others) ran
+    by_seen c (Some a) ran = record {
+      reads = record {
+        verdict = ran.reads.verdict;
+        answer = λ is. read_as _ _ (tells_on a
+            (MeansMade (prints c) (λ y. left_of (on y)) (λ y. failed_of (on y)) held write_failed limit
+            a.property c files others w made)
+            (MeansMade (prints c) left_of failed_of held write_failed limit a.property c (map on files)
+            (map on others) w made) x (means_seen c (prints c) a.property x)) (ran.reads.answer is);
+        own = ran.reads.own;
+      };
+      unread = made_unread _ x ran.unread;
+    }
 
 -- so on files
 pub on_seen : {S B : Type 0} (on : S → B) (left : B → Option (List ℕ)) (failed : B → Bool)
@@ -557,7 +492,7 @@ pub on_seen : {S B : Type 0} (on : S → B) (left : B → Option (List ℕ)) (fa
     made
     → RanOn left failed held write_failed limit asked (map on files) w x (map on others) made
 on_seen on left failed held write_failed limit asked w made x (r ∷ files) (rest ∷ others) ran =
-    by_seen on left failed held write_failed limit asked.command files others w made on left failed
-    asked.justice r rest x ran
+    by_seen on left failed held write_failed limit files others w made on left failed r rest x
+    asked.command asked.justice ran
 on_seen on left failed held write_failed limit asked w made x [] others ran = absurd ran
 on_seen on left failed held write_failed limit asked w made x (r ∷ files) [] ran = absurd ran

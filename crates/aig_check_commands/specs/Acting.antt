@@ -11,23 +11,29 @@ use Rattle.aig_command_line.specs.Ending.{WritesLine, ended}
 use Rattle.aig_command_line.specs.declared.files.OpenError.{OpenError}
 use Rattle.aig_check_commands.specs.declared.command.Asked.{Asked}
 use Rattle.aig_check_commands.specs.declared.command.Command.{Command}
+use Rattle.aig_check_commands.specs.declared.command.Command.TheVariants as commands
 use Rattle.aig_check_commands.specs.declared.justice.Justice.{Justice}
 use Rattle.aig_check_commands.specs.declared.error.CheckError.{CheckError}
 use Rattle.aig_check_commands.specs.declared.error.CheckError.TheVariants as errors
+use Rattle.aig_check_commands.specs.Checked.{RunsGoal}
 use Rattle.aig_check_commands.specs.Inputs.{Ran}
 use Rattle.aig_check_commands.specs.Living.{RanMade}
 use Rattle.aig_check_commands.specs.Opening.{OpensAll}
 use Rattle.aig_check_commands.specs.CommandWords.{Give, IsCall}
 
--- the command was run on FILE and on the files behind it, or on what is made of FILE for the
--- justice property
+-- the command was run on FILE and on the files behind it, or about a justice property of FILE: on
+-- the circuit that is made of it, or on that circuit's text
 abbrev pub RanBy : {R S W : Type 0} → (R → Option (List ℕ)) → (R → Bool)
     → (S → Option (List ℕ)) → (S → Bool) → (W → Option (List ℕ)) → (W → Bool) → ℕ → Option Justice
     → Command → R → List S → W → Result Unit CheckError → R → List S → W → Type 0
-RanBy left failed left_of failed_of held write_failed limit None =
-    Ran left failed left_of failed_of held write_failed limit
-RanBy left failed left_of failed_of held write_failed limit (Some a) =
-    RanMade left failed left_of failed_of held write_failed limit a
+RanBy left failed left_of failed_of held write_failed limit None c =
+    Ran left failed left_of failed_of held write_failed limit c
+RanBy left failed left_of failed_of held write_failed limit (Some a)
+    (commands.Check goal base_optimize step_optimize) =
+    RunsGoal left failed left_of failed_of held write_failed limit (Some a) goal base_optimize
+    step_optimize
+RanBy left failed left_of failed_of held write_failed limit (Some a) c =
+    RanMade left failed left_of failed_of held write_failed limit a c
 
 -- so it was on files, of which the first is FILE
 abbrev pub RanOn : {F W : Type 0} → (F → Option (List ℕ)) → (F → Bool) → (W → Option (List ℕ))

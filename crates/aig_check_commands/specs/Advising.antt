@@ -15,8 +15,10 @@ use Rattle.aig_refutation.specs.declared.error.RefutationError.{RefutationError}
 use Rattle.aig_refutation.specs.declared.error.RefutationError.TheVariants as refutation
 use Rattle.aig_answers.specs.declared.safety.error.SafetyError.{SafetyError}
 use Rattle.aig_answers.specs.declared.safety.error.SafetyError.TheVariants as safety
-use Rattle.aig_answers.specs.declared.safety.error.StepsError.{StepsError}
-use Rattle.aig_answers.specs.declared.safety.error.StepsError.TheVariants as steps
+use Rattle.aig_answers.specs.declared.plans.errors.PlanError.{PlanError}
+use Rattle.aig_answers.specs.declared.plans.errors.PlanError.TheVariants as plans
+use Rattle.aig_answers.specs.declared.plans.errors.Why.{Why}
+use Rattle.aig_answers.specs.declared.plans.errors.Why.TheVariants as whys
 use Rattle.aig_simulated.specs.declared.error.ConditionError.{ConditionError}
 use Rattle.aig_simulated.specs.declared.error.ConditionError.TheVariants as conditions
 use Rattle.aig_simulated.specs.declared.error.SimulationError.TheVariants as simulation
@@ -49,11 +51,15 @@ misfits_safety (safety.File e) = misfits_answer e
 misfits_safety (safety.Base e) = misfits_bounded e
 misfits_safety (safety.Step e) = misfits_answer e
 
--- of those for each step
-abbrev pub misfits_steps : StepsError → Bool
-misfits_steps (steps.File e) = misfits_answer e
-misfits_steps (steps.At n e) = misfits_answer e
-misfits_steps (steps.Step e) = misfits_answer e
+-- of one of a plan
+abbrev pub misfits_why : Why → Bool
+misfits_why (whys.Refutation e) = is_misfit e
+misfits_why e = false
+
+-- of those of a plan
+abbrev pub misfits_plan : PlanError → Bool
+misfits_plan (plans.Refused e) = misfits_why e.why
+misfits_plan e = false
 
 -- and of those about two files
 abbrev pub misfits_certificate : CertificateError → Bool
@@ -68,10 +74,7 @@ misfits_condition (conditions.Refutation e) = is_misfit e
 
 -- the program refuses a proof that doesn't fit the clauses
 abbrev pub has_misfit : Ending CheckError → Bool
-has_misfit (endings.Refused (errors.Answer e)) = misfits_answer e
-has_misfit (endings.Refused (errors.Bounded e)) = misfits_bounded e
-has_misfit (endings.Refused (errors.Safe e)) = misfits_safety e
-has_misfit (endings.Refused (errors.Steps e)) = misfits_steps e
+has_misfit (endings.Refused (errors.Goal e)) = misfits_plan e.error
 has_misfit (endings.Refused (errors.Certificate e)) = misfits_certificate e
 has_misfit (endings.Refused (errors.Equality (equality.Miter e))) = misfits_safety e
 has_misfit (endings.Refused (errors.Miter (miter.Certificate e))) = misfits_certificate e

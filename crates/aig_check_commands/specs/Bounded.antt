@@ -1,14 +1,13 @@
 -- Part of what is promised.
--- What the commands of bounded checks put into their writer, and what a proof tells of a file's
--- question. (Bounded model checking; DIMACS CNF format.)
-use Rattle.std.specs.Prelude.{◌≡◌, ℕ, ◌+◌, ◌≤◌, Bool, true, false, List, ◌∷◌, [], ◌++◌, length, Option, Some, Result, Ok, codes, decimal}
+-- What the commands of bounded checks put into their writer. (Bounded model checking; DIMACS CNF
+-- format.)
+use Rattle.std.specs.Prelude.{◌≡◌, ℕ, ◌+◌, ◌≤◌, Bool, true, false, List, ◌++◌, length, Option, Some, codes}
 use Rattle.std.specs.List.{flat_map, zip}
 use Rattle.aig_base.specs.Clauses.{lit_to}
 use Rattle.aig_base.specs.Formula.{clauses_in}
 use Rattle.aig_answers.specs.declared.bounded_checks.clauses.BoundedClauses.{BoundedClauses}
-use Rattle.aig_answers.specs.declared.bounded_checks.error.BoundedAnswerError.{BoundedAnswerError}
 use Rattle.aig_answers.specs.declared.bounded_checks.naming.Named.{Named}
-use Rattle.aig_answers.specs.Asking.{AsksBounded, IsSettled, ShowsProof}
+use Rattle.aig_answers.specs.Asking.{AsksBounded}
 use Rattle.aig_answers.specs.Said.{SaysWitness}
 use Rattle.aig_dimacs.specs.Reading.{parse_formula}
 use Rattle.aig_dimacs.specs.Text.{dimacs_of}
@@ -20,10 +19,6 @@ use Rattle.aig_witness.specs.Machine.{ShowsBad}
 use Rattle.aig_witness.specs.Witness.{Witness, witness_text}
 use Rattle.aig_check_commands.specs.Comments.{literal_line}
 use Rattle.aig_check_commands.specs.Titling.{title_of}
-
--- the line of steps up to which no bad state is reached
-abbrev pub safe_to_line : ℕ → List ℕ
-safe_to_line k = codes "no bad state up to step " ++ (decimal k ++ 10 ∷ [])
 
 -- ---- questions
 
@@ -57,19 +52,6 @@ pub record IsBoundedText (bytes : Option (List ℕ)) (f : File) (k : ℕ) (optim
       ++ dimacs_of (length made.clauses) (clauses_in made.clauses ++ made.extra)
   pub again : parse_formula text
       ≡ Some (length made.clauses, clauses_in made.clauses ++ made.extra)
-
--- ---- proofs
-
--- The file has a question. One that is settled needs no proof, and of any other it is told what the
--- bytes of the proof show of its clauses; so of the clauses of each, as any process prints them.
-pub record TellsProof (given : Option (List ℕ)) (k : ℕ) (optimize : Bool) (f : File)
-    (result : Result Unit BoundedAnswerError) : Type 0 where
-  pub made : BoundedClauses
-  pub asks : AsksBounded f k optimize made
-  pub settled : (other : BoundedClauses) → AsksBounded f k optimize other → IsSettled other
-      → result ≡ Ok tt
-  pub shown : (other : BoundedClauses) → AsksBounded f k optimize other → ¬ IsSettled other
-      → ShowsProof other given result
 
 -- ---- witnesses
 

@@ -1,6 +1,6 @@
 -- Part of what is promised.
 -- Which words give which command.
-use Rattle.std.specs.Prelude.{◌≡◌, ◌⊎◌, ◌==◌, ◌+◌, ◌++◌, ◌∷◌, [], ℕ, Bool, true, false, not, IsTrue, List, None, Option, Some, codes}
+use Rattle.std.specs.Prelude.{◌≡◌, ◌⊎◌, ◌==◌, ◌++◌, ◌∷◌, [], ℕ, Bool, true, false, not, IsTrue, List, None, Option, Some, codes}
 use Rattle.aig_runs.specs.declared.window.Window.{Window}
 use Rattle.aig_runs.specs.declared.window.Window.TheVariants.{Plain, Distinct}
 use Rattle.aig_command_line.specs.declared.arguments.ArgumentForm.{ArgumentForm}
@@ -24,6 +24,9 @@ use Rattle.aig_check_commands.specs.declared.command.Command.{Command}
 use Rattle.aig_check_commands.specs.declared.command.Command.TheVariants as commands
 use Rattle.aig_check_commands.specs.declared.command.FileCommand.TheVariants as on_file
 use Rattle.aig_check_commands.specs.declared.command.PairCommand.TheVariants as on_pair
+use Rattle.aig_check_commands.specs.declared.goals.Goal.{Goal}
+use Rattle.aig_check_commands.specs.declared.goals.Goal.TheVariants as goals
+use Rattle.aig_check_commands.specs.Goals.{last_step, proof_count}
 use Rattle.aig_check_commands.specs.Justice.{AreJustice, is_asked}
 use Rattle.aig_simulation.specs.Names.{condition_name}
 use Rattle.aig_simulation.specs.declared.condition.Condition.{Condition}
@@ -84,14 +87,18 @@ abbrev pub window_of : Bool → Window
 window_of true = Distinct
 window_of false = Plain
 
+-- the command that checks proofs of a goal, with one setting for all of them
+abbrev pub check_of : Goal → Bool → Command
+check_of goal optimize = commands.Check goal optimize optimize
+
 -- the command, with K and the settings
 abbrev pub command_of : Action → ℕ → Bool → Bool → Command
 command_of actions.Clauses k distinct optimize = commands.File (on_file.Clauses k optimize)
 command_of actions.Window k distinct optimize =
     commands.File (on_file.Window k (window_of distinct) optimize)
-command_of actions.Refuted k distinct optimize = commands.File (on_file.Refuted k optimize)
+command_of actions.Refuted k distinct optimize = check_of (goals.Refuted k) optimize
 command_of actions.Inductive k distinct optimize =
-    commands.File (on_file.Inductive k (window_of distinct) optimize)
+    check_of (goals.Inductive k (window_of distinct)) optimize
 command_of actions.Witness k distinct optimize = commands.File (on_file.Witness k optimize)
 command_of actions.Run k distinct optimize = commands.File on_file.Run
 command_of actions.Certified k distinct optimize = commands.Pair (on_pair.Certified optimize)
@@ -99,16 +106,16 @@ command_of (actions.Equal starts) k distinct optimize =
     commands.Pair (on_pair.Equal (of_both starts) k optimize)
 command_of actions.Obligations k distinct optimize = commands.Pair (on_pair.Obligations optimize)
 command_of actions.Bounded k distinct optimize = commands.File (on_file.Bounded k optimize)
-command_of actions.RefutedTo k distinct optimize = commands.File (on_file.RefutedTo k optimize)
+command_of actions.RefutedTo k distinct optimize = check_of (goals.RefutedTo k) optimize
 command_of actions.WitnessTo k distinct optimize = commands.File (on_file.WitnessTo k optimize)
 command_of actions.Safe k distinct optimize =
-    commands.Safe k (window_of distinct) optimize optimize
+    check_of (goals.Safe k (window_of distinct)) optimize
 command_of (actions.AlwaysEqual starts) k distinct optimize =
     commands.Pair (on_pair.AlwaysEqual (of_both starts) k (window_of distinct) optimize optimize)
 command_of (actions.EqualBy starts) k distinct optimize =
     commands.EqualBy (of_both starts) optimize
 command_of actions.SafeBySteps k distinct optimize =
-    commands.SafeBySteps k (window_of distinct) optimize optimize
+    check_of (goals.SafeBySteps k (window_of distinct)) optimize
 
 -- the word of raw clauses of BASE alone, or of P0 to PK, where those of STEP are optimised, or of
 -- STEP alone
@@ -118,12 +125,12 @@ raw_word false = codes "raw-step"
 
 -- the command, where the clauses of STEP alone are optimised, or those of BASE alone
 abbrev pub raw_alone : Bool → Command → Option Command
-raw_alone step (commands.Safe k form base_optimize step_optimize) =
-    Some (commands.Safe k form (not step) step)
+raw_alone step (commands.Check (goals.Safe k form) base_optimize step_optimize) =
+    Some (commands.Check (goals.Safe k form) (not step) step)
+raw_alone step (commands.Check (goals.SafeBySteps k form) base_optimize step_optimize) =
+    Some (commands.Check (goals.SafeBySteps k form) (not step) step)
 raw_alone step (commands.Pair (on_pair.AlwaysEqual comparison k form base_optimize step_optimize)) =
     Some (commands.Pair (on_pair.AlwaysEqual comparison k form (not step) step))
-raw_alone step (commands.SafeBySteps k form base_optimize step_optimize) =
-    Some (commands.SafeBySteps k form (not step) step)
 raw_alone step c = None
 
 -- the words fit the command, with one setting for all its proofs
@@ -232,24 +239,19 @@ Give words c = (limit : ℕ) × (paths : List (List ℕ)) × (further : List (Li
 abbrev pub step_of : Command → ℕ
 step_of (commands.File (on_file.Clauses k optimize)) = k
 step_of (commands.File (on_file.Window k form optimize)) = k
-step_of (commands.File (on_file.Refuted k optimize)) = k
-step_of (commands.File (on_file.Inductive k form optimize)) = k
 step_of (commands.File (on_file.Witness k optimize)) = k
 step_of (commands.File (on_file.Bounded k optimize)) = k
-step_of (commands.File (on_file.RefutedTo k optimize)) = k
 step_of (commands.File (on_file.WitnessTo k optimize)) = k
 step_of (commands.Pair (on_pair.Equal comparison k optimize)) = k
 step_of (commands.Pair (on_pair.AlwaysEqual comparison k form base_optimize step_optimize)) = k
-step_of (commands.Safe k form base_optimize step_optimize) = k
-step_of (commands.SafeBySteps k form base_optimize step_optimize) = k
+step_of (commands.Check goal base_optimize step_optimize) = last_step goal
 step_of c = 0
 
 -- on how many files it is
 abbrev pub paths_of : Command → ℕ
 paths_of (commands.File c) = 1
 paths_of (commands.Pair c) = 2
-paths_of (commands.Safe k form base_optimize step_optimize) = 1
-paths_of (commands.SafeBySteps k form base_optimize step_optimize) = 1
+paths_of (commands.Check goal base_optimize step_optimize) = 1
 paths_of (commands.EqualBy comparison optimize) = 2
 paths_of (commands.Simulated optimize) = 2
 paths_of (commands.Obligation condition optimize) = 2
@@ -262,8 +264,7 @@ beside_of (commands.File (on_file.Bounded k optimize)) = 0
 beside_of (commands.Pair (on_pair.Certified optimize)) = 2
 beside_of (commands.Pair (on_pair.Obligations optimize)) = 0
 beside_of (commands.Pair (on_pair.AlwaysEqual comparison k form base_optimize step_optimize)) = 2
-beside_of (commands.Safe k form base_optimize step_optimize) = 2
-beside_of (commands.SafeBySteps k form base_optimize step_optimize) = k + 2
+beside_of (commands.Check goal base_optimize step_optimize) = proof_count goal
 beside_of (commands.EqualBy comparison optimize) = 3
 beside_of (commands.Simulated optimize) = 5
 beside_of (commands.Obligation condition optimize) = 0

@@ -1,7 +1,7 @@
 -- Part of what is promised.
 -- What is told of an error: the path of the file that it is about, and the place where reading that
 -- file stopped.
-use Rattle.std.specs.Prelude.{◌≡◌, ℕ, ◌+◌, ◌-◌, ◌⊎◌, List, ◌++◌, Contains, Option, None, Some, Result, Err, IfSome, length, map, slice_get}
+use Rattle.std.specs.Prelude.{◌≡◌, ℕ, ◌+◌, ◌⊎◌, List, ◌++◌, Contains, Option, None, Some, Result, Err, IfSome, length, map, slice_get}
 use Rattle.aig_command_line.specs.Came.{IsPlaceIn}
 use Rattle.aig_command_line.specs.Faults.{error_of, path_of, place_in}
 use Rattle.aig_command_line.specs.Places.{IsPlaced}
@@ -27,14 +27,12 @@ use Rattle.aig_check_commands.specs.CommandWords.{IsCall}
 
 -- ---- paths
 
--- the number of what an error is about, among what is given beside the files, of which there are so
--- many: the first is 0
-abbrev pub number_of : Subject → ℕ → ℕ
-number_of subjects.Step count = 1
-number_of subjects.Third count = 2
-number_of (subjects.Nth n) count = n
-number_of subjects.Last count = count - 1
-number_of subject count = 0
+-- the number of what an error is about, among what is given beside the files: the first is 0
+abbrev pub number_of : Subject → ℕ
+number_of subjects.Step = 1
+number_of subjects.Third = 2
+number_of (subjects.Nth n) = n
+number_of subject = 0
 
 -- the word that is the path of what an error is about, if there is one
 abbrev pub word_of : Subject → List (List ℕ) → List (List ℕ) → Option (List ℕ)
@@ -42,7 +40,7 @@ word_of subjects.Nothing paths further = None
 word_of subjects.Unopened paths further = None
 word_of subjects.File paths further = slice_get paths 0
 word_of subjects.Other paths further = slice_get paths 1
-word_of subject paths further = slice_get further (number_of subject (length further))
+word_of subject paths further = slice_get further (number_of subject)
 
 -- it is that word, or one of those at which no file is opened
 abbrev pub IsPathOf : {F : Type 0} → (List ℕ → Result F OpenError → Type 0) → Subject
@@ -92,7 +90,7 @@ IsPlaceOf opens left limit c paths further path e subject searches.Nowhere place
 IsPlaceOf opens left limit c paths further path e subject (searches.Read error) place =
     IsPlaced opens left limit path error place
 IsPlaceOf opens left limit c paths further path e subject (searches.Run measure) place =
-    IsRunPlace opens left limit c paths further (number_of subject (length further)) e measure place
+    IsRunPlace opens left limit c paths further (number_of subject) e measure place
 
 -- ---- endings
 

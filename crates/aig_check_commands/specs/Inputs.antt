@@ -1,15 +1,14 @@
 -- Part of what is promised.
 -- What a command does with the list of the files that it reads: FILE, CERT, OTHER or a witness
 -- circuit, and what is given beside these.
-use Rattle.std.specs.Prelude.{ℕ, Bool, List, [], ◌∷◌, Option, Result}
+use Rattle.std.specs.Prelude.{ℕ, Bool, List, [], ◌∷◌, None, Option, Result}
 use Rattle.aig_check_commands.specs.declared.command.Command.{Command}
 use Rattle.aig_check_commands.specs.declared.command.Command.TheVariants as commands
 use Rattle.aig_check_commands.specs.declared.error.CheckError.{CheckError}
+use Rattle.aig_check_commands.specs.Checked.{RunsGoal}
 use Rattle.aig_check_commands.specs.Comparing.{RunsComparing}
 use Rattle.aig_check_commands.specs.Pairs.{RunsPair}
 use Rattle.aig_check_commands.specs.Running.{Runs, nothing_fails, nothing_given}
-use Rattle.aig_check_commands.specs.Safe.{RunsSafe}
-use Rattle.aig_check_commands.specs.SafeBySteps.{RunsOnProofs}
 use Rattle.aig_check_commands.specs.Simulating.{RunsObligation, RunsSimulated}
 use Rattle.aig_simulated.specs.Simulated.{proofs_of}
 
@@ -38,14 +37,9 @@ Ran left failed left_of failed_of held write_failed limit (commands.Pair c) r (s
     RunsPair left failed left_of failed_of left_of failed_of left_of failed_of held write_failed c
     limit r s p q w result rest other used spent made
 Ran left failed left_of failed_of held write_failed limit
-    (commands.Safe k form base_optimize step_optimize) r (p ∷ q ∷ []) w result rest
-    (used ∷ spent ∷ []) made =
-    RunsSafe left failed left_of failed_of left_of failed_of held write_failed k form base_optimize
-    step_optimize limit r p q w result rest used spent made
-Ran left failed left_of failed_of held write_failed limit
-    (commands.SafeBySteps k form base_optimize step_optimize) r proofs w result rest others made =
-    RunsOnProofs left failed left_of failed_of held write_failed k form base_optimize step_optimize
-    limit r proofs w result rest others made
+    (commands.Check goal base_optimize step_optimize) r proofs w result rest others made =
+    RunsGoal left failed left_of failed_of held write_failed limit None goal base_optimize
+    step_optimize r proofs w result rest others made
 Ran left failed left_of failed_of held write_failed limit (commands.EqualBy comparison optimize) r
     (s ∷ c ∷ p ∷ q ∷ []) w result rest (other ∷ tried ∷ used ∷ spent ∷ []) made =
     RunsComparing left failed left_of failed_of left_of failed_of left_of failed_of left_of

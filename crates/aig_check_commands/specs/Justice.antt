@@ -7,6 +7,8 @@ use Rattle.aig_check_commands.specs.declared.command.Command.{Command}
 use Rattle.aig_check_commands.specs.declared.command.Command.TheVariants as commands
 use Rattle.aig_check_commands.specs.declared.command.FileCommand.TheVariants as on_file
 use Rattle.aig_check_commands.specs.declared.command.PairCommand.TheVariants as on_pair
+use Rattle.aig_check_commands.specs.declared.goals.Goal.{Goal}
+use Rattle.aig_check_commands.specs.declared.goals.Goal.TheVariants as goals
 use Rattle.aig_check_commands.specs.declared.justice.Justice.{Justice}
 
 -- ---- words
@@ -28,18 +30,27 @@ AreJustice None words rest = IsNumbered (codes "--justice") None words rest
 
 -- ---- commands
 
--- the command is asked of a justice property: one that checks one proof, of its fair lassos alone
+-- proofs of the goal are asked of a justice property: one proof alone, of its fair lassos, and not
+-- those of each step
+abbrev pub is_asked_of : Goal → Justice → Bool
+is_asked_of (goals.Safe k form) a = true
+is_asked_of (goals.SafeBySteps k form) a = false
+is_asked_of goal a = is_none a.rounds
+
+-- they are asked of it where one is given
+abbrev pub is_asked_by : Goal → Option Justice → Bool
+is_asked_by goal None = true
+is_asked_by goal (Some a) = is_asked_of goal a
+
+-- the command is asked of a justice property, where one is given
 abbrev pub is_asked : Option Justice → Command → Bool
 is_asked None c = true
 is_asked (Some a) (commands.File (on_file.Clauses k optimize)) = true
 is_asked (Some a) (commands.File (on_file.Window k form optimize)) = true
 is_asked (Some a) (commands.File (on_file.Bounded k optimize)) = true
-is_asked (Some a) (commands.File (on_file.Refuted k optimize)) = is_none a.rounds
-is_asked (Some a) (commands.File (on_file.RefutedTo k optimize)) = is_none a.rounds
-is_asked (Some a) (commands.File (on_file.Inductive k form optimize)) = is_none a.rounds
 is_asked (Some a) (commands.Pair (on_pair.Certified optimize)) = true
 is_asked (Some a) (commands.Pair (on_pair.Obligations optimize)) = true
-is_asked (Some a) (commands.Safe k form base_optimize step_optimize) = true
+is_asked (Some a) (commands.Check goal base_optimize step_optimize) = is_asked_of goal a
 is_asked (Some a) (commands.Simulated optimize) = true
 is_asked (Some a) (commands.Obligation condition optimize) = true
 is_asked (Some a) c = false

@@ -5,7 +5,10 @@ pub mod Comments
 pub mod Titling
 pub mod Printed
 pub mod Running
-pub mod Safe
+pub mod Goals
+pub mod Made
+pub mod Checked
+pub mod CheckedParts
 pub mod Pairs
 pub mod Comparing
 pub mod Printing
@@ -15,7 +18,6 @@ pub mod Help
 pub mod Opening
 pub mod Living
 pub mod LivingParts
-pub mod SafeBySteps
 pub mod Simulating
 pub mod Acting
 pub mod Subjects

@@ -2,53 +2,27 @@
 -- What a command does that asks about a justice property of a file: what it is run on is the text
 -- of another file, which is made of that one, and what it answers is so of the file itself. (AIGER
 -- 1.9, "Properties": justice and fairness. Liveness to safety; k-liveness.)
-use Rattle.std.specs.Prelude.{◌≡◌, ℕ, ◌+◌, ◌≤◌, Bool, true, false, List, ◌∷◌, [], ◌++◌, MatchOption, Option, None, Some, Result, Ok, Err, IfErr, codes, decimal}
+use Rattle.std.specs.Prelude.{◌≡◌, ℕ, Bool, true, false, List, Option, None, Some, Result, Ok, Err, IfErr}
 use Rattle.std.specs.Io.KnownBytes.{Appends}
 use Rattle.aig_circuit.specs.Circuit.{Circuit}
 use Rattle.aig_command_line.specs.declared.discarded.Discarded.{Discarded}
-use Rattle.aig_edits.specs.declared.edit_error.EditError.{EditError}
-use Rattle.aig_edits.specs.Edits.{IsEditOwn, ReadsFile, edit_verdict}
-use Rattle.aig_edits.specs.Lives.{IsLiveFile, IsLiveRefusal}
-use Rattle.aig_edits.specs.Rounds.{IsRoundsFile, IsRoundsRefusal}
+use Rattle.aig_edits.specs.Edits.{ReadsFile}
 use Rattle.aig_format.specs.Circuit.{text_of}
 use Rattle.aig_format.specs.File.{File}
-use Rattle.aig_edit_laws.specs.Fair.{HasFairLasso, HasFairRun}
+use Rattle.aig_edit_laws.specs.Fair.{HasFairRun}
 use Rattle.aig_output.specs.Sinks.{Stops}
-use Rattle.aig_reader.specs.Verdicts.{Accepted, Verdict}
 use Rattle.aig_check_commands.specs.declared.command.Command.{Command}
 use Rattle.aig_check_commands.specs.declared.command.Command.TheVariants as commands
-use Rattle.aig_check_commands.specs.declared.command.FileCommand.{FileCommand}
-use Rattle.aig_check_commands.specs.declared.command.FileCommand.TheVariants as on_file
-use Rattle.aig_check_commands.specs.declared.command.PairCommand.TheVariants as on_pair
 use Rattle.aig_check_commands.specs.declared.justice.Justice.{Justice}
 use Rattle.aig_check_commands.specs.declared.error.CheckError.{CheckError}
 use Rattle.aig_check_commands.specs.declared.error.CheckError.TheVariants as errors
 use Rattle.aig_check_commands.specs.Inputs.{Ran, Stream, bytes_of, has_failed}
-use Rattle.aig_check_commands.specs.CommandWords.{prints, step_of}
+use Rattle.aig_check_commands.specs.CommandWords.{prints}
+use Rattle.aig_check_commands.specs.Checked.{IsMadeOwn, made_verdict}
+use Rattle.aig_check_commands.specs.Goals.{no_run_line}
+use Rattle.aig_check_commands.specs.Made.{IsMadeOf, IsUnmade}
 
 -- ---- the file that is made
-
--- the circuit is the live one of the justice property, or the one that counts so many of its rounds
-abbrev pub IsMadeOf : Justice → File → Circuit → Type 0
-IsMadeOf a f m =
-    MatchOption a.rounds (IsLiveFile a.property f m)
-    (λ rounds. IsRoundsFile a.property rounds f m)
-
--- why there is none
-abbrev pub IsUnmade : Justice → File → EditError → Type 0
-IsUnmade a f e =
-    MatchOption a.rounds (IsLiveRefusal a.property f e)
-    (λ rounds. IsRoundsRefusal a.property rounds f e)
-
--- what an error says of the bytes of FILE: one of what is made of it, that they are a file
-abbrev pub made_verdict : CheckError → Verdict
-made_verdict (errors.Unmade e) = edit_verdict e
-made_verdict e = Accepted
-
--- no path is opened
-abbrev pub IsMadeOwn : CheckError → Type 0
-IsMadeOwn (errors.Unmade e) = IsEditOwn e
-IsMadeOwn e = Unit {0}
 
 -- nothing is made
 abbrev pub IsOfMaking : CheckError → Type 0
@@ -76,43 +50,6 @@ OnText Reads text = (rest : List ℕ) × Reads (Some text, false) (Some rest, fa
 
 -- ---- answers
 
--- what stands before a number of steps in a line about fair lassos
-abbrev pub lasso_text : FileCommand → ℕ → List ℕ
-lasso_text (on_file.Refuted k optimize) property =
-    codes "no fair lasso of j" ++ (decimal property ++ 32 ∷ []) ++ codes "of "
-lasso_text (on_file.RefutedTo k optimize) property =
-    codes "no fair lasso of j" ++ (decimal property ++ 32 ∷ []) ++ codes "of at most "
-lasso_text (on_file.Inductive k form optimize) property =
-    codes "no fair run of j" ++ (decimal property ++ 44 ∷ [])
-    ++ codes " if no fair lasso of at most "
-lasso_text c property = []
-
--- the line about fair lassos
-abbrev pub lassos_line : FileCommand → ℕ → List ℕ
-lassos_line c property =
-    lasso_text c property ++ (decimal (step_of (commands.File c) + 1) ++ 32 ∷ [])
-    ++ (codes "steps" ++ 10 ∷ [])
-
--- the line about the fair runs of a justice property
-abbrev pub fair_line : Command → ℕ → List ℕ
-fair_line (commands.File c) property = lassos_line c property
-fair_line c property = codes "no fair run of j" ++ (decimal property ++ 10 ∷ [])
-
--- it has no fair lasso of at most k + 1 steps
-abbrev pub HasNoLassoTo : File → ℕ → ℕ → Type 0
-HasNoLassoTo f property k = (n : ℕ) → n ≤ k → ¬ HasFairLasso f property n
-
--- what is so of the file
-abbrev pub ShowsFair : Command → ℕ → File → Type 0
-ShowsFair (commands.File (on_file.Refuted k optimize)) property f = ¬ HasFairLasso f property k
-ShowsFair (commands.File (on_file.RefutedTo k optimize)) property f = HasNoLassoTo f property k
-ShowsFair (commands.File (on_file.Inductive k form optimize)) property f =
-    HasNoLassoTo f property k → ¬ HasFairRun f property
-ShowsFair (commands.Pair (on_pair.Certified optimize)) property f = ¬ HasFairRun f property
-ShowsFair (commands.Safe k form base_optimize step_optimize) property f = ¬ HasFairRun f property
-ShowsFair (commands.Simulated optimize) property f = ¬ HasFairRun f property
-ShowsFair c property f = ⊥
-
 -- The check was passed, this is shown, and the line was written, and the writer has not failed; or
 -- a beginning of it was, and the writer has; or the check was not passed, and nothing is written.
 abbrev pub Concludes : {W : Type 0} → (W → Option (List ℕ)) → (W → Bool) → List ℕ → Type 0
@@ -124,6 +61,11 @@ Concludes held write_failed line Shown Checks w made (Err errors.Write) =
 Concludes held write_failed line Shown Checks w made (Err e) = Checks (Err e) × (made ≡ w)
 
 -- ---- on the text of what is made
+
+-- the command is on the text: it checks a certificate, or a witness circuit, or prints clauses
+abbrev pub IsOnText : Command → Type 0
+IsOnText (commands.Check goal base step) = ⊥
+IsOnText c = Unit {0}
 
 -- the writer that keeps nothing holds nothing that is known, and never fails
 abbrev pub keeps_nothing : Discarded → Option (List ℕ)
@@ -153,7 +95,7 @@ abbrev pub ChecksMade : {S W : Type 0} → (S → Option (List ℕ)) → (S → 
     → (W → Option (List ℕ)) → (W → Bool) → ℕ → ℕ → Command → List S → List S → W → W → File
     → List ℕ → Result Unit CheckError → Type 0
 ChecksMade left_of failed_of held write_failed limit property c inputs others w made f text =
-    Concludes held write_failed (fair_line c property) (ShowsFair c property f)
+    Concludes held write_failed (no_run_line property) (¬ HasFairRun f property)
     (ChecksText left_of failed_of limit c inputs others text) w made
 
 -- either, by the command

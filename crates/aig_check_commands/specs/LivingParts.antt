@@ -10,7 +10,7 @@ use Rattle.aig_edits.specs.Rounds.{PrintsRounds}
 use Rattle.aig_format.specs.Circuit.{text_of}
 use Rattle.aig_format.specs.File.{File}
 use Rattle.aig_check_commands.specs.declared.justice.Justice.{Justice}
-use Rattle.aig_check_commands.specs.Living.{IsMadeOf, IsUnmade}
+use Rattle.aig_check_commands.specs.Made.{IsMadeOf, IsUnmade}
 
 -- its text was written, or a beginning of it, or it is said why there is none
 abbrev pub WritesMade : {W : Type 0} → (W → Option (List ℕ)) → (W → Bool) → Justice → W → W → File

@@ -1,7 +1,7 @@
 -- Part of what is promised.
 -- What a command does with the bytes of a file and of a proof or a witness: what it puts into its
 -- writer, and why it refuses them.
-use Rattle.std.specs.Prelude.{◌≡◌, ◌≢◌, ℕ, ◌+◌, Bool, false, IsTrue, List, [], ◌∷◌, ◌++◌, length, Option, Some, None, Result, Ok, Err, IfErr, IfOk, codes, decimal}
+use Rattle.std.specs.Prelude.{◌≡◌, ◌≢◌, ℕ, ◌+◌, Bool, false, List, [], ◌∷◌, ◌++◌, length, Option, Some, None, Result, IfErr, IfOk, codes, decimal}
 use Rattle.aig_base.specs.declared.logic.literal.Lit.{Lit}
 use Rattle.aig_base.specs.Formula.{clauses_in}
 use Rattle.aig_dimacs.specs.Reading.{parse_formula}
@@ -12,18 +12,12 @@ use Rattle.aig_format.specs.Fits.{Accepts}
 use Rattle.aig_reader.specs.declared.error.ReadError.TheVariants as read
 use Rattle.aig_reader.specs.Reading.{IsReadAs}
 use Rattle.aig_reader.specs.Verdicts.{Accepted, Judges, Refused, Short, Verdict, verdict_by}
-use Rattle.aig_runs.specs.Queries.{IsSafeTo}
 use Rattle.aig_runs.specs.declared.window.Window.{Window}
-use Rattle.aig_runs.specs.Induction.{IsKInductive}
-use Rattle.aig_runs.specs.Safety.{IsSafeAt}
 use Rattle.aig_runs.specs.WindowClauses.{AsksWindow}
-use Rattle.aig_refutation.specs.declared.error.RefutationError.{RefutationError}
-use Rattle.aig_refutation.specs.declared.error.RefutationError.TheVariants as refutation
 use Rattle.aig_encode.specs.declared.query_clauses.Query.{Query}
 use Rattle.aig_encode.specs.Encoding.{IsQuery}
-use Rattle.aig_answers.specs.declared.error.AnswerError.TheVariants as answers
 use Rattle.aig_answers.specs.Answers as asking
-use Rattle.aig_answers.specs.Answers.{IsAsked, IsOfInduction, IsOfQuery, IsOfStep, IsOfWindow, TellsOfStep, TellsOfWindow, asked_verdict, window_verdict}
+use Rattle.aig_answers.specs.Answers.{IsAsked, IsOfQuery, IsOfWindow, asked_verdict, window_verdict}
 use Rattle.aig_witness.specs.Witness.{Witness, witness_text}
 use Rattle.aig_witness.specs.declared.file.ShowError.TheVariants as shows
 use Rattle.aig_witness.specs.Machine.{ShowsBad}
@@ -37,13 +31,11 @@ use Rattle.aig_bounded.specs.Question.{question_size}
 use Rattle.aig_answers.specs.declared.bounded_checks.error.BoundedAnswerError.{BoundedAnswerError}
 use Rattle.aig_answers.specs.declared.bounded_checks.error.BoundedAnswerError.TheVariants as bounded
 use Rattle.aig_answers.specs.Asking as bounding
-use Rattle.aig_answers.specs.Asking.{IsAskedWithin, IsOfCheck, IsOfQuestion, IsOfWitness, bounded_verdict}
+use Rattle.aig_answers.specs.Asking.{IsAskedWithin, IsOfQuestion, IsOfWitness, bounded_verdict}
 use Rattle.aig_answers.specs.Certificates as certificates
 use Rattle.aig_answers.specs.Comparing as comparing
 use Rattle.aig_edits.specs.Edits.{edit_verdict}
 use Rattle.aig_answers.specs.Equality as equality
-use Rattle.aig_answers.specs.Safety as safety
-use Rattle.aig_answers.specs.Steps as stepping
 use Rattle.aig_simulated.specs.Simulated as simulating
 use Rattle.aig_witness.specs.declared.solutions.error.SolutionError.{SolutionError}
 use Rattle.aig_witness.specs.Checked.{RefusesSolution, SaysWitness}
@@ -51,7 +43,7 @@ use Rattle.aig_check_commands.specs.Printed.{Printed}
 use Rattle.aig_check_commands.specs.Sums.{IsSum}
 use Rattle.aig_check_commands.specs.Titles.{title_text}
 use Rattle.aig_check_commands.specs.declared.titles.title.Question.TheVariants as questions
-use Rattle.aig_check_commands.specs.Bounded.{IsBoundedText, IsWitnessToText, TellsProof, safe_to_line}
+use Rattle.aig_check_commands.specs.Bounded.{IsBoundedText, IsWitnessToText}
 use Rattle.aig_check_commands.specs.Comments.{comments_of, named_text}
 use Rattle.aig_check_commands.specs.Titling.{is_distinct, title_of}
 use Rattle.aig_check_commands.specs.declared.command.FileCommand.{FileCommand}
@@ -60,14 +52,6 @@ use Rattle.aig_check_commands.specs.declared.error.CheckError.{CheckError}
 use Rattle.aig_check_commands.specs.declared.error.CheckError.TheVariants as errors
 
 -- ---- answers
-
--- the line of a step at which no bad state is reached
-abbrev pub step_line : ℕ → List ℕ
-step_line k = codes "no bad state at step " ++ (decimal k ++ 10 ∷ [])
-
--- the line of a window that keeps a machine safe
-abbrev pub window_line : ℕ → List ℕ
-window_line k = codes "no bad state at any step, if none up to step " ++ (decimal k ++ 10 ∷ [])
 
 -- the line of a justice property, and of the first and the last step of a loop
 abbrev pub lasso_line : ℕ → ℕ → ℕ → List ℕ
@@ -134,13 +118,9 @@ abbrev pub Answers : FileCommand → Option (List ℕ) → Option (List ℕ) →
 Answers (commands.Clauses k optimize) given bytes f text = IsClausesText bytes f k optimize text
 Answers (commands.Window k form optimize) given bytes f text =
     IsWindowText bytes form f k optimize text
-Answers (commands.Refuted k optimize) given bytes f text = (text ≡ step_line k) × IsSafeAt f k
-Answers (commands.Inductive k form optimize) given bytes f text =
-    (text ≡ window_line k) × IsKInductive form f k × (IsSafeTo f k → (n : ℕ) → IsSafeTo f n)
 Answers (commands.Witness k optimize) given bytes f text = IsWitnessText given f k optimize text
 Answers commands.Run given bytes f text = IsShownLine given f text
 Answers (commands.Bounded k optimize) given bytes f text = IsBoundedText bytes f k optimize text
-Answers (commands.RefutedTo k optimize) given bytes f text = (text ≡ safe_to_line k) × IsSafeTo f k
 Answers (commands.WitnessTo k optimize) given bytes f text =
     IsWitnessToText given f k optimize text
 
@@ -151,24 +131,18 @@ Answers (commands.WitnessTo k optimize) given bytes f text =
 abbrev pub IsAskedBy : FileCommand → ℕ → List ℕ → File → Type 0
 IsAskedBy (commands.Clauses k optimize) limit = IsAsked limit k
 IsAskedBy (commands.Window k form optimize) limit = IsAsked limit (k + 1)
-IsAskedBy (commands.Refuted k optimize) limit = IsAsked limit k
-IsAskedBy (commands.Inductive k form optimize) limit = IsAsked limit (k + 1)
 IsAskedBy (commands.Witness k optimize) limit = IsAsked limit k
 IsAskedBy commands.Run limit = λ bytes. Accepts bytes limit
 IsAskedBy (commands.Bounded k optimize) limit = IsAskedWithin limit
-IsAskedBy (commands.RefutedTo k optimize) limit = IsAskedWithin limit
 IsAskedBy (commands.WitnessTo k optimize) limit = IsAskedWithin limit
 
 -- the verdict on a file that fits
 abbrev pub file_verdict : FileCommand → ℕ → File → Verdict
 file_verdict (commands.Clauses k optimize) limit f = asked_verdict limit k f
 file_verdict (commands.Window k form optimize) limit f = window_verdict form limit k f
-file_verdict (commands.Refuted k optimize) limit f = asked_verdict limit k f
-file_verdict (commands.Inductive k form optimize) limit f = window_verdict form limit k f
 file_verdict (commands.Witness k optimize) limit f = asked_verdict limit k f
 file_verdict commands.Run limit f = Accepted
 file_verdict (commands.Bounded k optimize) limit f = bounded_verdict f
-file_verdict (commands.RefutedTo k optimize) limit f = bounded_verdict f
 file_verdict (commands.WitnessTo k optimize) limit f = bounded_verdict f
 
 -- ---- errors
@@ -180,16 +154,15 @@ verdict_of (errors.Answer e) = asking.verdict_of e
 verdict_of (errors.Show e) = showing.verdict_of (claims.Show e)
 verdict_of (errors.Solution e) = Accepted
 verdict_of (errors.Certificate e) = certificates.first_verdict e
+verdict_of (errors.Goal e) = Accepted
 verdict_of errors.Write = Accepted
 verdict_of errors.Memory = Short
 verdict_of errors.Open = Refused
 verdict_of (errors.Bounded e) = bounding.verdict_of e
-verdict_of (errors.Safe e) = safety.verdict_of e
 verdict_of (errors.Equality e) = equality.first_verdict e
 verdict_of (errors.Lasso e) = showing.verdict_of (claims.Lasso e)
 verdict_of (errors.Miter e) = comparing.first_verdict e
 verdict_of (errors.Unmade e) = edit_verdict e
-verdict_of (errors.Steps e) = stepping.verdict_of e
 verdict_of (errors.Simulation e) = simulating.first_verdict e
 
 -- the error of a witness that is refused
@@ -203,20 +176,16 @@ IsErrorOf c errors.Write = ⊥
 IsErrorOf (commands.Clauses k optimize) errors.Memory = Unit {0}
 IsErrorOf (commands.Clauses k optimize) (errors.Answer e) = IsOfQuery e
 IsErrorOf (commands.Window k form optimize) (errors.Answer e) = IsOfWindow e
-IsErrorOf (commands.Refuted k optimize) (errors.Answer e) = IsOfStep e
-IsErrorOf (commands.Inductive k form optimize) (errors.Answer e) = IsOfInduction e
 IsErrorOf (commands.Witness k optimize) (errors.Answer e) = IsOfQuery e
 IsErrorOf (commands.Witness k optimize) (errors.Solution e) = Unit {0}
 IsErrorOf commands.Run (errors.Show e) = e ≢ shows.File read.Open
 IsErrorOf commands.Run (errors.Lasso e) = Unit {0}
 IsErrorOf (commands.Bounded k optimize) (errors.Bounded e) = IsOfQuestion e
-IsErrorOf (commands.RefutedTo k optimize) (errors.Bounded e) = IsOfCheck e
 IsErrorOf (commands.WitnessTo k optimize) (errors.Bounded e) = IsOfWitness e
 IsErrorOf c e = ⊥
 
 -- it is of the file alone: what is given beside it wasn't read
 abbrev pub IsOfFileAlone : CheckError → Type 0
-IsOfFileAlone (errors.Answer (answers.Refutation e)) = ⊥
 IsOfFileAlone (errors.Answer e) = Unit {0}
 IsOfFileAlone (errors.Show (shows.File e)) = Unit {0}
 IsOfFileAlone (errors.Bounded (bounded.Refutation e)) = ⊥
@@ -237,28 +206,6 @@ TellsOfSolution (commands.Witness k optimize) limit old new given failed e =
     IsReadAs (IsAsked limit k) (RefusesAnswer given failed k optimize) old new e
 TellsOfSolution c limit old new given failed e = ⊥
 
--- a proof about a step or a window is refused so: its text shows this of the clauses of the file's
--- query, or of its window
-abbrev pub TellsOfProof : FileCommand → ℕ → Option (List ℕ) → Option (List ℕ) → Option (List ℕ)
-    → Bool → RefutationError → Type 0
-TellsOfProof (commands.Refuted k optimize) limit old new given failed e =
-    IsReadAs (IsAsked limit k) (TellsOfStep k optimize given) old new (Err (answers.Refutation e))
-    × (e ≡ refutation.Stream → IsTrue failed)
-TellsOfProof (commands.Inductive k form optimize) limit old new given failed e =
-    IsReadAs (IsAsked limit (k + 1)) (TellsOfWindow form k optimize given) old new
-    (Err (answers.Refutation e))
-    × (e ≡ refutation.Stream → IsTrue failed)
-TellsOfProof c limit old new given failed e = ⊥
-
--- a proof that no bad state is reached up to a step is refused so
-abbrev pub TellsOfRefutation : FileCommand → ℕ → Option (List ℕ) → Option (List ℕ)
-    → Option (List ℕ) → Bool → RefutationError → Type 0
-TellsOfRefutation (commands.RefutedTo k optimize) limit old new given failed e =
-    IsReadAs (IsAskedWithin limit) (TellsProof given k optimize) old new
-    (Err (bounded.Refutation e))
-    × (e ≡ refutation.Stream → IsTrue failed)
-TellsOfRefutation c limit old new given failed e = ⊥
-
 -- a solver's answer to a question up to a step is refused so
 abbrev pub TellsOfAnswer : FileCommand → ℕ → Option (List ℕ) → Option (List ℕ) → Option (List ℕ)
     → Bool → SolutionError → Type 0
@@ -271,43 +218,26 @@ abbrev pub TellsOfQuestion : FileCommand → ℕ → Option (List ℕ) → Optio
     → BoundedAnswerError → Type 0
 TellsOfQuestion (commands.Bounded k optimize) limit old new e =
     bounding.TellsOfSize limit (λ c. question_size c k) old new e
-TellsOfQuestion (commands.RefutedTo k optimize) limit old new e =
-    bounding.TellsOfSize limit (λ c. question_size c k) old new e
 TellsOfQuestion (commands.WitnessTo k optimize) limit old new e =
     bounding.TellsOfSize limit (λ c. question_size c k) old new e
 TellsOfQuestion c limit old new e = ⊥
 
 -- what a refusal tells of the file's question or of what is given beside the file: a read of it is
--- said to have failed only where one did, and a proof, a solver's answer or a witness is refused as
+-- said to have failed only where one did, and a solver's answer or a witness is refused as
 -- is promised of these
 abbrev pub TellsOfGiven : FileCommand → ℕ → Option (List ℕ) → Option (List ℕ) → Option (List ℕ)
     → Bool → CheckError → Type 0
-TellsOfGiven c limit old new given failed (errors.Answer (answers.Refutation e)) =
-    TellsOfProof c limit old new given failed e
 TellsOfGiven c limit old new given failed (errors.Solution e) =
     TellsOfSolution c limit old new given failed e
 TellsOfGiven c limit old new given failed (errors.Show e) =
     showing.RefusesClaim limit old new given failed (claims.Show e)
 TellsOfGiven c limit old new given failed (errors.Lasso e) =
     showing.RefusesClaim limit old new given failed (claims.Lasso e)
-TellsOfGiven c limit old new given failed (errors.Bounded (bounded.Refutation e)) =
-    TellsOfRefutation c limit old new given failed e
 TellsOfGiven c limit old new given failed (errors.Bounded (bounded.Solution e)) =
     TellsOfAnswer c limit old new given failed e
 TellsOfGiven c limit old new given failed (errors.Bounded (bounded.Question e)) =
     TellsOfQuestion c limit old new (bounded.Question e)
 TellsOfGiven c limit old new given failed e = Unit {0}
-
--- a proof is taken where its text shows what is asked
-abbrev pub TakesProof : FileCommand → ℕ → Option (List ℕ) → Option (List ℕ) → Option (List ℕ)
-    → Type 0
-TakesProof (commands.Refuted k optimize) limit old new given =
-    IsReadAs (IsAsked limit k) (TellsOfStep k optimize given) old new (Ok tt)
-TakesProof (commands.Inductive k form optimize) limit old new given =
-    IsReadAs (IsAsked limit (k + 1)) (TellsOfWindow form k optimize given) old new (Ok tt)
-TakesProof (commands.RefutedTo k optimize) limit old new given =
-    IsReadAs (IsAskedWithin limit) (TellsProof given k optimize) old new (Ok tt)
-TakesProof c limit old new given = Unit {0}
 
 -- ---- runs
 
@@ -332,8 +262,6 @@ pub record ChecksFile {R P : Type 0} (left : R → Option (List ℕ)) (read_fail
   -- the text is its answer to the file that was read
   pub text : IfOk answer
       (IsReadAs (IsAskedBy c limit) (Answers c (given p) (left r)) (left r) (left rest))
-  -- then the proof was taken
-  pub taken : IfOk answer (λ text. TakesProof c limit (left r) (left rest) (given p))
   -- what is given beside the file is read only where the file is taken
   pub unread : IfErr answer (λ e. IsOfFileAlone e → used ≡ p)
   -- and a refusal of it tells why

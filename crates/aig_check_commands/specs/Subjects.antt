@@ -1,5 +1,6 @@
 -- Part of what is promised.
 -- What an error is about: a file, or none, and how the place is found where reading it stopped.
+use Rattle.std.specs.Prelude.{ℕ}
 use Rattle.aig_answers.specs.declared.error.AnswerError.{AnswerError}
 use Rattle.aig_answers.specs.declared.error.AnswerError.TheVariants as answers
 use Rattle.aig_bounded.specs.declared.error.BoundedError.TheVariants as questions
@@ -28,8 +29,10 @@ use Rattle.aig_refutation.specs.declared.error.RefutationError.{RefutationError}
 use Rattle.aig_refutation.specs.declared.error.RefutationError.TheVariants as refutation
 use Rattle.aig_answers.specs.declared.safety.error.SafetyError.{SafetyError}
 use Rattle.aig_answers.specs.declared.safety.error.SafetyError.TheVariants as safety
-use Rattle.aig_answers.specs.declared.safety.error.StepsError.{StepsError}
-use Rattle.aig_answers.specs.declared.safety.error.StepsError.TheVariants as steps
+use Rattle.aig_answers.specs.declared.plans.errors.PlanError.{PlanError}
+use Rattle.aig_answers.specs.declared.plans.errors.PlanError.TheVariants as plans
+use Rattle.aig_answers.specs.declared.plans.errors.Why.{Why}
+use Rattle.aig_answers.specs.declared.plans.errors.Why.TheVariants as whys
 use Rattle.aig_witness.specs.declared.solutions.error.SolutionError.{SolutionError}
 use Rattle.aig_witness.specs.declared.solutions.error.SolutionError.TheVariants as solution
 use Rattle.aig_witness.specs.declared.error.WitnessError.{WitnessError}
@@ -169,11 +172,16 @@ about_safety (safety.File e) = about_answer subjects.Given e
 about_safety (safety.Base e) = about_bounded e
 about_safety (safety.Step e) = about_answer subjects.Step e
 
--- FILE, or the proof of one of the steps, or of the window
-abbrev pub about_steps : StepsError → About
-about_steps (steps.File e) = about_answer subjects.Given e
-about_steps (steps.At n e) = about_answer (subjects.Nth n) e
-about_steps (steps.Step e) = about_answer subjects.Last e
+-- FILE, of whose question there are no clauses, or the question's proof
+abbrev pub about_why : ℕ → Why → About
+about_why n (whys.Clauses questions.TooLarge) = whole subjects.File
+about_why n (whys.Clauses questions.Memory) = nothing
+about_why n (whys.Refutation e) = about_refutation (subjects.Nth n) e
+
+-- FILE, or one of the proofs of a plan
+abbrev pub about_plan : PlanError → About
+about_plan (plans.Refused e) = about_why e.index e.why
+about_plan e = whole subjects.File
 
 -- one of two files, or of the proofs that their machines are equal at every step
 abbrev pub about_equality : EqualityError → About
@@ -233,10 +241,9 @@ about_error (errors.Solution e) = about_solution e
 about_error (errors.Show e) = about_show e
 about_error (errors.Certificate e) = about_certificate e
 about_error (errors.Bounded e) = about_bounded e
-about_error (errors.Safe e) = about_safety e
+about_error (errors.Goal e) = about_plan e.error
 about_error (errors.Equality e) = about_equality e
 about_error (errors.Lasso fault) = about_lasso fault
 about_error (errors.Miter e) = about_miter e
 about_error (errors.Unmade e) = about_edit e
-about_error (errors.Steps e) = about_steps e
 about_error (errors.Simulation e) = about_simulation e

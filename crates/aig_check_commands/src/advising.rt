@@ -1,12 +1,12 @@
 //! What may be the matter with a proof that is refused.
 
 ghost use Rattle.std.specs.Prelude.{◌≡◌};
-ghost use Rattle.aig_check_commands.specs.Advising.{Advises, has_misfit, is_misfit, misfits_answer, misfits_bounded, misfits_certificate, misfits_condition, misfits_safety, misfits_steps};
+ghost use Rattle.aig_check_commands.specs.Advising.{Advises, has_misfit, is_misfit, misfits_answer, misfits_bounded, misfits_certificate, misfits_condition, misfits_plan, misfits_safety};
 
 use crate::error::CheckError;
 use aig_answers::{
-    AnswerError, BoundedAnswerError, CertificateError, EqualityError, MiterError, SafetyError,
-    StepsError,
+    AnswerError, BoundedAnswerError, CertificateError, EqualityError, MiterError, PlanError,
+    Refused, SafetyError, Why,
 };
 use aig_command_line::{Ending, Teller};
 use aig_refutation::RefutationError;
@@ -57,13 +57,18 @@ fn misfits_safety(error: SafetyError) -> bool
     }
 }
 
-/// The same of a proof for each step that a machine is safe.
-fn misfits_steps(error: StepsError) -> bool
-    ensures { result ≡ misfits_steps error }
+/// The same of the proofs of a plan.
+fn misfits_plan(error: PlanError) -> bool
+    ensures { result ≡ misfits_plan error }
 {
     match error {
-        StepsError::File(error) | StepsError::Step(error) => misfits_answer(error),
-        StepsError::At { error, .. } => misfits_answer(error),
+        PlanError::Refused(
+            Refused {
+                why: Why::Refutation(error),
+                ..
+            },
+        ) => is_misfit(error),
+        _ => false,
     }
 }
 
@@ -92,10 +97,7 @@ fn has_misfit(ending: Ending<CheckError>) -> bool
     ensures { result ≡ has_misfit ending }
 {
     match ending {
-        Ending::Refused(CheckError::Answer(error)) => misfits_answer(error),
-        Ending::Refused(CheckError::Bounded(error)) => misfits_bounded(error),
-        Ending::Refused(CheckError::Safe(error)) => misfits_safety(error),
-        Ending::Refused(CheckError::Steps(error)) => misfits_steps(error),
+        Ending::Refused(CheckError::Goal(error)) => misfits_plan(error.error),
         Ending::Refused(CheckError::Certificate(error)) => misfits_certificate(error),
         Ending::Refused(CheckError::Equality(EqualityError::Miter(error))) => misfits_safety(error),
         Ending::Refused(CheckError::Miter(MiterError::Certificate(error))) => {

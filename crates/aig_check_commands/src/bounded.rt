@@ -14,9 +14,9 @@ ghost use Rattle.aig_check_commands.specs.Running.{Runs, nothing_fails, nothing_
 use crate::command::FileCommand;
 use crate::comments::buffer_literal;
 use crate::error::CheckError;
-use crate::printing::{after_writing, tell_formula, write_line};
+use crate::printing::{after_writing, tell_formula};
 use crate::titles::{Question, Summed, Title, write_title};
-use aig_answers::{BoundedClauses, Named, bounded, bounded_witness, check_bounded};
+use aig_answers::{BoundedClauses, Named, bounded, bounded_witness};
 use aig_base::{Sink, Source, StreamFault, Var};
 use aig_command_line::Origin;
 use aig_dimacs::write_dimacs;
@@ -132,25 +132,6 @@ pub fn print_bounded<R: Source + Drop, W: Sink>(
         command limit r tt w.old result rest tt w.new }
 {
     print_bounded_of::<R, Brand, W>(alloc, limit, k, optimize, r, w)
-}
-
-/// Checks a proof that no bad state is reached up to step `k`, and prints so.
-pub fn print_refuted_to<R: Source, P: Source, W: Sink>(
-    alloc: Global,
-    limit: usize,
-    k: usize,
-    optimize: bool,
-    r: &mut R,
-    proof: &mut P,
-    w: &mut W,
-) -> Result<(), CheckError>
-    requires { IsLimit limit }
-    ensures { let command = FileCommand.RefutedTo k optimize in
-        Runs R.left R.failed P.left P.failed W.held W.failed
-        command limit r.old proof.old w.old result r.new proof.new w.new }
-{
-    check_bounded(alloc, r, limit, k, optimize, proof)?;
-    after_writing(write_line(w, b"no bad state up to step ", k))
 }
 
 /// Reads a solver's answer to the clauses of `print_bounded`, and prints the witness that it says, which was checked: of the first

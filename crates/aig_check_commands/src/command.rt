@@ -3,12 +3,13 @@
 ghost use Rattle.std.specs.Prelude.{◌≡◌, ◌↔◌, ◌<◌, ◌^◌, ◌∷◌, Bool, IfNone, IfSome, List, Some, ℕ, length, map, string_bytes};
 ghost use Rattle.aig_command_line.specs.Arguments.{seen};
 ghost use Rattle.aig_check_commands.specs.Fits.{Fits};
-ghost use Rattle.aig_check_commands.specs.CommandWords.{AreCommand, FitNone, Give, IsAlone, IsCall, IsOnWitness, IsWhole, beside_of, command_of, constrained, equal_name, form_of, name_of, of_both, on_certificate, on_step, paths_of, raw_alone, raw_word, step_of, under, window_of, witness_form, witness_name};
+ghost use Rattle.aig_check_commands.specs.CommandWords.{AreCommand, FitNone, Give, IsAlone, IsCall, IsOnWitness, IsWhole, beside_of, check_of, command_of, constrained, equal_name, form_of, name_of, of_both, on_certificate, on_step, paths_of, raw_alone, raw_word, step_of, under, window_of, witness_form, witness_name};
 ghost use Rattle.aig_check_commands.specs.declared.command.Asked.{Asked};
 ghost use Rattle.aig_check_commands.specs.declared.command.Command.{Command};
 ghost use Rattle.aig_simulation.specs.Names.{condition_name};
 ghost use Rattle.aig_simulation.specs.declared.condition.Condition.{Condition};
 
+use crate::goals::Goal;
 use crate::justice::{Justice, is_asked, is_word, justice_first};
 use aig_answers::Window;
 use aig_command_line::{ArgumentForm, Given, HasArguments, Step, find, limited};
@@ -34,22 +35,6 @@ pub enum FileCommand {
         /// Whether exclusive ors and choices have clauses of their own.
         optimize: bool,
     },
-    /// Check a proof that no bad state is reached at step `k`.
-    Refuted {
-        /// The step.
-        k: usize,
-        /// Whether exclusive ors and choices have clauses of their own.
-        optimize: bool,
-    },
-    /// Check a proof that no window of `k + 2` steps has a bad state first at its end.
-    Inductive {
-        /// How many steps come before the last two.
-        k: usize,
-        /// Which windows are looked at.
-        form: Window,
-        /// Whether exclusive ors and choices have clauses of their own.
-        optimize: bool,
-    },
     /// Print the witness of a bad state at step `k` that a solver's answer says.
     Witness {
         /// The step.
@@ -66,13 +51,6 @@ pub enum FileCommand {
         /// Whether exclusive ors and choices have clauses of their own.
         optimize: bool,
     },
-    /// Check a proof that no bad state is reached up to step `k`.
-    RefutedTo {
-        /// The step.
-        k: usize,
-        /// Whether exclusive ors and choices have clauses of their own.
-        optimize: bool,
-    },
     /// Print the witness of a bad state up to step `k` that a solver's answer says.
     WitnessTo {
         /// The step.
@@ -80,23 +58,6 @@ pub enum FileCommand {
         /// Whether exclusive ors and choices have clauses of their own.
         optimize: bool,
     },
-}
-
-/// The step that a command on a file names, and 0 where it names none.
-pub(crate) fn step_of(command: FileCommand) -> usize
-    ensures { result ≡ step_of (Command.File command) }
-{
-    match command {
-        FileCommand::Clauses { k, .. }
-        | FileCommand::Window { k, .. }
-        | FileCommand::Refuted { k, .. }
-        | FileCommand::Inductive { k, .. }
-        | FileCommand::Witness { k, .. }
-        | FileCommand::Bounded { k, .. }
-        | FileCommand::RefutedTo { k, .. }
-        | FileCommand::WitnessTo { k, .. } => k,
-        _ => 0,
-    }
 }
 
 /// What the program is asked to do with two files.
@@ -143,26 +104,13 @@ pub enum Command {
     File(FileCommand),
     /// A command on FILE and on CERT or OTHER.
     Pair(PairCommand),
-    /// Check proofs that no bad state is reached at any step of FILE.
-    Safe {
-        /// How many steps come before the last two of a window.
-        k: usize,
-        /// Which windows are looked at.
-        form: Window,
-        /// Whether exclusive ors and choices have clauses of their own in the question of BASE.
+    /// Check proofs of FILE.
+    Check {
+        /// What they are to show.
+        goal: Goal,
+        /// Whether exclusive ors and choices have clauses of their own in questions of steps.
         base_optimize: bool,
-        /// Whether they have in the question of STEP.
-        step_optimize: bool,
-    },
-    /// Check proofs that no bad state is reached at any step of FILE, of which one is of each of the steps 0 to `k`.
-    SafeBySteps {
-        /// How many steps come before the last two of a window.
-        k: usize,
-        /// Which windows are looked at.
-        form: Window,
-        /// Whether exclusive ors and choices have clauses of their own in the questions of the steps.
-        base_optimize: bool,
-        /// Whether they have in the question of STEP.
+        /// Whether they have in the question of a window.
         step_optimize: bool,
     },
     /// Check that a certificate of the miter shows that the machines of FILE and OTHER are equal at every step.
@@ -346,6 +294,17 @@ impl WitnessAction {
     }
 }
 
+/// The command that checks proofs of a goal, with one setting for all of them.
+fn check_of(goal: Goal, optimize: bool) -> Command
+    ensures { result ≡ check_of goal optimize }
+{
+    Command::Check {
+        goal,
+        base_optimize: optimize,
+        step_optimize: optimize,
+    }
+}
+
 /// The form of windows.
 fn window_of(distinct: bool) -> Window
     ensures { result ≡ window_of distinct }
@@ -426,8 +385,8 @@ impl Action {
         match self {
             Action::Clauses => Command::File(FileCommand::Clauses { k, optimize }),
             Action::Window => Command::File(FileCommand::Window { k, form, optimize }),
-            Action::Refuted => Command::File(FileCommand::Refuted { k, optimize }),
-            Action::Inductive => Command::File(FileCommand::Inductive { k, form, optimize }),
+            Action::Refuted => check_of(Goal::Refuted(k), optimize),
+            Action::Inductive => check_of(Goal::Inductive(k, form), optimize),
             Action::Witness => Command::File(FileCommand::Witness { k, optimize }),
             Action::Run => Command::File(FileCommand::Run),
             Action::Certified => Command::Pair(PairCommand::Certified { optimize }),
@@ -438,14 +397,9 @@ impl Action {
             }),
             Action::Obligations => Command::Pair(PairCommand::Obligations { optimize }),
             Action::Bounded => Command::File(FileCommand::Bounded { k, optimize }),
-            Action::RefutedTo => Command::File(FileCommand::RefutedTo { k, optimize }),
+            Action::RefutedTo => check_of(Goal::RefutedTo(k), optimize),
             Action::WitnessTo => Command::File(FileCommand::WitnessTo { k, optimize }),
-            Action::Safe => Command::Safe {
-                k,
-                form,
-                base_optimize: optimize,
-                step_optimize: optimize,
-            },
+            Action::Safe => check_of(Goal::Safe(k, form), optimize),
             Action::AlwaysEqual(starts) => Command::Pair(PairCommand::AlwaysEqual {
                 comparison: of_both(starts),
                 k,
@@ -457,12 +411,7 @@ impl Action {
                 comparison: of_both(starts),
                 optimize,
             },
-            Action::SafeBySteps => Command::SafeBySteps {
-                k,
-                form,
-                base_optimize: optimize,
-                step_optimize: optimize,
-            },
+            Action::SafeBySteps => check_of(Goal::SafeBySteps(k, form), optimize),
         }
     }
 }
@@ -503,15 +452,19 @@ fn raw_alone(step_optimize: bool, command: Command) -> Option<Command>
 {
     let base_optimize = !step_optimize;
     match command {
-        Command::Safe { k, form, .. } => Some(Command::Safe {
-            k,
-            form,
+        Command::Check {
+            goal: Goal::Safe(k, form),
+            ..
+        } => Some(Command::Check {
+            goal: Goal::Safe(k, form),
             base_optimize,
             step_optimize,
         }),
-        Command::SafeBySteps { k, form, .. } => Some(Command::SafeBySteps {
-            k,
-            form,
+        Command::Check {
+            goal: Goal::SafeBySteps(k, form),
+            ..
+        } => Some(Command::Check {
+            goal: Goal::SafeBySteps(k, form),
             base_optimize,
             step_optimize,
         }),

@@ -4,10 +4,8 @@ ghost use Rattle.std.specs.Prelude.{◌≡◌};
 ghost use Rattle.aig_check_commands.specs.Running.{error_of_claim};
 ghost use Rattle.aig_check_commands.specs.declared.error.CheckError.TheVariants as errors;
 
-use aig_answers::{
-    AnswerError, BoundedAnswerError, CertificateError, EqualityError, MiterError, SafetyError,
-    StepsError,
-};
+use crate::goals::GoalError;
+use aig_answers::{AnswerError, BoundedAnswerError, CertificateError, EqualityError, MiterError};
 use aig_base::{MemoryError, StreamFault};
 use aig_edits::EditError;
 use aig_simulated::SimulationError;
@@ -41,9 +39,9 @@ pub enum CheckError {
     /// There is no answer about the steps up to one.
     #[error(transparent)]
     Bounded(BoundedAnswerError),
-    /// It isn't shown that no bad state is reached at any step.
-    #[error(transparent)]
-    Safe(SafetyError),
+    /// What proofs are to show isn't shown.
+    #[error("{0}")]
+    Goal(GoalError),
     /// It isn't shown that two files' machines are equal at every step.
     #[error(transparent)]
     Equality(EqualityError),
@@ -56,9 +54,6 @@ pub enum CheckError {
     /// The file is refused, or nothing is made of it to ask about a justice property.
     #[error(transparent)]
     Unmade(EditError),
-    /// It isn't shown, by a proof for each step, that no bad state is reached at any.
-    #[error(transparent)]
-    Steps(StepsError),
     /// A witness circuit doesn't show that no bad state is reached at any step.
     #[error(transparent)]
     Simulation(SimulationError),
@@ -115,14 +110,6 @@ impl From<BoundedAnswerError> for CheckError {
     }
 }
 
-impl From<SafetyError> for CheckError {
-    ghost from_gives = { λ e r. r ≡ errors.Safe e };
-
-    fn from(error: SafetyError) -> CheckError {
-        CheckError::Safe(error)
-    }
-}
-
 impl From<EqualityError> for CheckError {
     ghost from_gives = { λ e r. r ≡ errors.Equality e };
 
@@ -144,14 +131,6 @@ impl From<EditError> for CheckError {
 
     fn from(error: EditError) -> CheckError {
         CheckError::Unmade(error)
-    }
-}
-
-impl From<StepsError> for CheckError {
-    ghost from_gives = { λ e r. r ≡ errors.Steps e };
-
-    fn from(error: StepsError) -> CheckError {
-        CheckError::Steps(error)
     }
 }
 

@@ -41,16 +41,14 @@ fn unopened<'a, F: Reopens>(files: &F, call: &Call<'a>) -> Option<&'a str>
     }
 }
 
-/// The number of the file that an error is about, among those that are given beside FILE and OTHER or CERT, of which there are so many:
-/// the first is 0.
-fn number_of(subject: Subject, count: usize) -> usize
-    ensures { result ≡ number_of subject count }
+/// The number of the file that an error is about, among those that are given beside FILE and OTHER or CERT: the first is 0.
+fn number_of(subject: Subject) -> usize
+    ensures { result ≡ number_of subject }
 {
     match subject {
         Subject::Step => 1,
         Subject::Third => 2,
         Subject::Nth(number) => number,
-        Subject::Last => count.saturating_sub(1),
         _ => 0,
     }
 }
@@ -68,7 +66,7 @@ fn path_of<'a, F: Reopens>(files: &F, call: &Call<'a>, subject: Subject) -> Opti
         Subject::Unopened => unopened(files, call),
         Subject::File => path_at(call.paths, 0),
         Subject::Other => path_at(call.paths, 1),
-        _ => path_at(call.further, number_of(subject, call.further.len())),
+        _ => path_at(call.further, number_of(subject)),
     }
 }
 
@@ -90,7 +88,7 @@ fn place_at<F: Reopens>(
         Search::Nowhere => Place::Whole,
         Search::Read(error) => place_in_file(alloc, files, path, error, call.limit),
         Search::Run(measure) => {
-            let number = number_of(about.subject, call.further.len());
+            let number = number_of(about.subject);
             place_by_run(alloc, files, call, number, error, measure)
         }
     }

@@ -2,10 +2,11 @@
 
 ghost use Rattle.std.specs.Prelude.{◌≡◌, ◌↔◌, ◌∷◌, true, ℕ, IfNone, IfSome, List, Option, map, string_bytes};
 ghost use Rattle.aig_format.specs.Text.{IsNumber};
-ghost use Rattle.aig_check_commands.specs.Justice.{AreJustice, IsNumbered, is_asked};
+ghost use Rattle.aig_check_commands.specs.Justice.{AreJustice, IsNumbered, is_asked, is_asked_of};
 ghost use Rattle.aig_check_commands.specs.declared.justice.Justice.{Justice};
 
 use crate::command::{Command, FileCommand, PairCommand};
+use crate::goals::Goal;
 use aig_command_line::steps;
 
 /// Which justice property of FILE is asked about, by which file that is made of it.
@@ -80,6 +81,18 @@ pub(crate) fn justice_first(words: &[String]) -> Option<(Option<Justice>, &[Stri
     Some((Some(Justice { property, rounds }), rest))
 }
 
+/// Whether proofs of a goal are asked of a justice property: those of one proof are asked of its fair lassos alone, and those of each step
+/// aren't.
+fn is_asked_of(goal: Goal, justice: Justice) -> bool
+    ensures { result ≡ is_asked_of goal justice }
+{
+    match goal {
+        Goal::Refuted(_) | Goal::RefutedTo(_) | Goal::Inductive(..) => justice.rounds.is_none(),
+        Goal::Safe(..) => true,
+        Goal::SafeBySteps(..) => false,
+    }
+}
+
 /// Whether a command is asked of a justice property, where one is given: those of one proof are asked of its fair lassos alone.
 pub(crate) fn is_asked(justice: Option<Justice>, command: Command) -> bool
     ensures { result ≡ is_asked justice command }
@@ -91,13 +104,9 @@ pub(crate) fn is_asked(justice: Option<Justice>, command: Command) -> bool
         Command::File(
             FileCommand::Clauses { .. } | FileCommand::Window { .. } | FileCommand::Bounded { .. },
         ) => true,
-        Command::File(
-            FileCommand::Refuted { .. }
-            | FileCommand::RefutedTo { .. }
-            | FileCommand::Inductive { .. },
-        ) => justice.rounds.is_none(),
+        Command::Check { goal, .. } => is_asked_of(goal, justice),
         Command::Pair(PairCommand::Certified { .. } | PairCommand::Obligations { .. }) => true,
-        Command::Safe { .. } | Command::Simulated { .. } | Command::Obligation { .. } => true,
+        Command::Simulated { .. } | Command::Obligation { .. } => true,
         _ => false,
     }
 }

@@ -4,12 +4,10 @@ ghost use Rattle.std.specs.Prelude.{◌≡◌, ◌<◌, ◌^◌, ◌+◌, ◌++�
 ghost use Rattle.aig_command_line.specs.Limits.{IsLimit};
 ghost use Rattle.aig_edits.specs.Edits.{IsEditOwn, ReadsFile, edit_verdict};
 ghost use Rattle.aig_output.specs.Sinks.{BuffersOrStops, WritesOrStops};
-ghost use Rattle.aig_check_commands.specs.Living.{fair_line, lasso_text, lassos_line};
+ghost use Rattle.aig_check_commands.specs.Goals.{fair_line, last_step, lasso_text, lassos_line, no_run_line};
 ghost use Rattle.aig_check_commands.specs.LivingParts.{MakesText, WritesMade, text_error};
-ghost use Rattle.aig_check_commands.specs.CommandWords.{step_of};
-ghost use Rattle.aig_check_commands.specs.declared.command.Command.TheVariants as commands;
 
-use crate::command::{Command, FileCommand, step_of};
+use crate::goals::Goal;
 use crate::justice::Justice;
 use crate::printing::write_line;
 use aig_base::{Sink, Source, StreamFault, ToWrite};
@@ -88,22 +86,15 @@ fn buffer_about<W: Sink>(
 fn buffer_lasso_text<W: Sink>(
     buffer: &mut OutputBuffer,
     w: &mut W,
-    command: FileCommand,
+    goal: Goal,
     property: usize,
 ) -> Result<(), StreamFault>
-    ensures { let text = lasso_text command property in
+    ensures { let text = lasso_text goal property in
         BuffersOrStops W.held W.failed buffer.old w.old result text buffer.new w.new }
 {
-    match command {
-        FileCommand::Refuted { .. } => buffer_about(
-            buffer,
-            w,
-            b"no fair lasso of j",
-            property,
-            b' ',
-            b"of ",
-        ),
-        FileCommand::RefutedTo { .. } => buffer_about(
+    match goal {
+        Goal::Refuted(_) => buffer_about(buffer, w, b"no fair lasso of j", property, b' ', b"of "),
+        Goal::RefutedTo(_) => buffer_about(
             buffer,
             w,
             b"no fair lasso of j",
@@ -111,7 +102,7 @@ fn buffer_lasso_text<W: Sink>(
             b' ',
             b"of at most ",
         ),
-        FileCommand::Inductive { .. } => buffer_about(
+        Goal::Inductive(..) => buffer_about(
             buffer,
             w,
             b"no fair run of j",
@@ -127,45 +118,44 @@ fn buffer_lasso_text<W: Sink>(
 fn buffer_lassos<W: Sink>(
     buffer: &mut OutputBuffer,
     w: &mut W,
-    command: FileCommand,
+    goal: Goal,
     property: usize,
 ) -> Result<(), StreamFault>
-    requires { step_of (commands.File command) < 2 ^ 32 }
-    ensures { let line = lassos_line command property in
+    requires { last_step goal < 2 ^ 32 }
+    ensures { let line = lassos_line goal property in
         BuffersOrStops W.held W.failed buffer.old w.old result line buffer.new w.new }
 {
-    buffer_lasso_text(buffer, w, command, property)?;
-    buffer.write_number(w, step_of(command) + 1, b' ')?;
+    buffer_lasso_text(buffer, w, goal, property)?;
+    buffer.write_number(w, goal.last_step() + 1, b' ')?;
     buffer.write_bytes(w, b"steps\n")
 }
 
 /// Writes the line about fair lassos.
-fn write_lassos<W: Sink>(
-    w: &mut W,
-    command: FileCommand,
-    property: usize,
-) -> Result<(), StreamFault>
-    requires { step_of (commands.File command) < 2 ^ 32 }
-    ensures { let line = lassos_line command property in
+fn write_lassos<W: Sink>(w: &mut W, goal: Goal, property: usize) -> Result<(), StreamFault>
+    requires { last_step goal < 2 ^ 32 }
+    ensures { let line = lassos_line goal property in
         WritesOrStops W.held W.failed w.old result line w.new }
 {
     let mut buffer = OutputBuffer::new();
-    buffer_lassos(&mut buffer, w, command, property)?;
+    buffer_lassos(&mut buffer, w, goal, property)?;
     buffer.flush(w)
 }
 
-/// Writes what a command shows of the fair runs of FILE.
-pub(crate) fn write_fair<W: Sink>(
-    w: &mut W,
-    command: Command,
-    property: usize,
-) -> Result<(), StreamFault>
-    requires { step_of command < 2 ^ 32 }
-    ensures { let line = fair_line command property in
+/// Writes the line about fair runs.
+pub(crate) fn write_no_run<W: Sink>(w: &mut W, property: usize) -> Result<(), StreamFault>
+    ensures { WritesOrStops W.held W.failed w.old result (no_run_line property) w.new }
+{
+    write_line(w, b"no fair run of j", property)
+}
+
+/// Writes what proofs of a goal show of the fair runs of FILE.
+pub(crate) fn write_fair<W: Sink>(w: &mut W, goal: Goal, property: usize) -> Result<(), StreamFault>
+    requires { last_step goal < 2 ^ 32 }
+    ensures { let line = fair_line goal property in
         WritesOrStops W.held W.failed w.old result line w.new }
 {
-    match command {
-        Command::File(command) => write_lassos(w, command, property),
-        _ => write_line(w, b"no fair run of j", property),
+    match goal {
+        Goal::Safe(..) | Goal::SafeBySteps(..) => write_no_run(w, property),
+        _ => write_lassos(w, goal, property),
     }
 }

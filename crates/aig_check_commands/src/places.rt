@@ -9,11 +9,12 @@ ghost use Rattle.aig_check_commands.specs.CommandWords.{beside_of};
 
 use crate::command::Call;
 use crate::error::CheckError;
+use crate::goals::Goal;
 use crate::inputs::{Again, open_all};
 use crate::running::check_asked;
 use aig_answers::{
-    AnswerError, BoundedAnswerError, CertificateError, EqualityError, MiterError, SafetyError,
-    StepsError,
+    AnswerError, BoundedAnswerError, CertificateError, EqualityError, MiterError, PlanError,
+    Refused, SafetyError, Why,
 };
 use aig_base::{MemoryError, Source, StreamFault};
 use aig_command_line::{Counted, Discarded, Measure, Origin, Place, Reopens};
@@ -90,25 +91,32 @@ fn is_same_safety(first: SafetyError, second: SafetyError) -> bool
     }
 }
 
-/// Whether two errors of a proof for each step that a machine is safe are the same, and of a proof.
-fn is_same_steps(first: StepsError, second: StepsError) -> bool
+/// Whether two goals are the same.
+fn is_same_goal(first: Goal, second: Goal) -> bool
+    ensures { result ≡ true → first ≡ second }
+{
+    first == second
+}
+
+/// Whether two errors of a plan are the same, and of a proof.
+fn is_same_plan(first: PlanError, second: PlanError) -> bool
     ensures { result ≡ true → first ≡ second }
 {
     match (first, second) {
         (
-            StepsError::At {
-                step: first_step,
-                error: AnswerError::Refutation(first),
-            },
-            StepsError::At {
-                step: second_step,
-                error: AnswerError::Refutation(second),
-            },
-        ) => first_step == second_step && is_same_refutation(first, second),
-        (
-            StepsError::Step(AnswerError::Refutation(first)),
-            StepsError::Step(AnswerError::Refutation(second)),
-        ) => is_same_refutation(first, second),
+            PlanError::Refused(
+                Refused {
+                    index: first_index,
+                    why: Why::Refutation(first),
+                },
+            ),
+            PlanError::Refused(
+                Refused {
+                    index: second_index,
+                    why: Why::Refutation(second),
+                },
+            ),
+        ) => first_index == second_index && is_same_refutation(first, second),
         _ => false,
     }
 }
@@ -139,10 +147,6 @@ fn is_same(first: CheckError, second: CheckError) -> bool
     ensures { result ≡ true → first ≡ second }
 {
     match (first, second) {
-        (
-            CheckError::Answer(AnswerError::Refutation(first)),
-            CheckError::Answer(AnswerError::Refutation(second)),
-        ) => is_same_refutation(first, second),
         (CheckError::Solution(first), CheckError::Solution(second)) => {
             is_same_solution(first, second)
         }
@@ -156,8 +160,9 @@ fn is_same(first: CheckError, second: CheckError) -> bool
         (CheckError::Bounded(first), CheckError::Bounded(second)) => {
             is_same_bounded(first, second)
         }
-        (CheckError::Safe(first), CheckError::Safe(second)) => is_same_safety(first, second),
-        (CheckError::Steps(first), CheckError::Steps(second)) => is_same_steps(first, second),
+        (CheckError::Goal(first), CheckError::Goal(second)) => {
+            is_same_goal(first.goal, second.goal) && is_same_plan(first.error, second.error)
+        }
         (CheckError::Simulation(first), CheckError::Simulation(second)) => {
             is_same_simulation(first, second)
         }

@@ -23,9 +23,7 @@ use crate::command::FileCommand;
 use crate::comments::write_comments;
 use crate::error::CheckError;
 use crate::titles::{Question, Summed, Title, write_title};
-use aig_answers::{
-    UnrolledWindow, Window, check_step, check_window, read_query, read_unrolled, read_window,
-};
+use aig_answers::{UnrolledWindow, Window, read_query, read_unrolled, read_window};
 use aig_base::{DagCnf, LitVvec, Sink, Source, StreamFault};
 use aig_circuit::CircuitView;
 use aig_cnf::{NeededGates, find_needed};
@@ -33,7 +31,7 @@ use aig_command_line::Origin;
 use aig_dimacs::{write_circuit, write_circuit_with};
 use aig_encode::Query;
 use aig_output::OutputBuffer;
-use aig_runs::{Unrolled, inductive_windows_are_safe};
+use aig_runs::Unrolled;
 use aig_witness::{Places, checked_witness, known_witnesses_show, write_witness};
 use std::alloc::Global;
 use std::marker::Brand;
@@ -136,48 +134,6 @@ pub fn print_window<R: Source + Drop, W: Sink>(
         command limit r tt w.old result rest tt w.new }
 {
     print_window_of::<R, Brand, W>(alloc, limit, k, form, optimize, r, w)
-}
-
-/// Checks a proof that no bad state is reached at step `k`, and prints so.
-pub fn print_refuted<R: Source, P: Source, W: Sink>(
-    alloc: Global,
-    limit: usize,
-    k: usize,
-    optimize: bool,
-    r: &mut R,
-    proof: &mut P,
-    w: &mut W,
-) -> Result<(), CheckError>
-    requires { IsLimit limit }
-    ensures { let command = FileCommand.Refuted k optimize in
-        Runs R.left R.failed P.left P.failed W.held W.failed
-        command limit r.old proof.old w.old result r.new proof.new w.new }
-{
-    check_step(alloc, r, limit, k, optimize, proof)?;
-    after_writing(write_line(w, b"no bad state at step ", k))
-}
-
-/// Checks a proof that no window of `k + 2` steps has a bad state first at its end, and prints what that means. Requires that
-/// `k` is below 2^32.
-pub fn print_inductive<R: Source, P: Source, W: Sink>(
-    alloc: Global,
-    limit: usize,
-    k: usize,
-    form: Window,
-    optimize: bool,
-    r: &mut R,
-    proof: &mut P,
-    w: &mut W,
-) -> Result<(), CheckError>
-    requires limit { IsLimit limit }
-    requires small { k < 2 ^ 32 }
-    ensures { let command = FileCommand.Inductive k form optimize in
-        Runs R.left R.failed P.left P.failed W.held W.failed
-        command limit r.old proof.old w.old result r.new proof.new w.new }
-{
-    inductive_windows_are_safe();
-    check_window(alloc, r, limit, k, optimize, form, proof)?;
-    after_writing(write_line(w, b"no bad state at any step, if none up to step ", k))
 }
 
 /// Tells that clauses are read again from their text, as the counts of variables and of clauses fit.

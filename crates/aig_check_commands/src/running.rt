@@ -8,27 +8,22 @@ ghost use Rattle.aig_check_commands.specs.Acting.{RanOn};
 ghost use Rattle.aig_check_commands.specs.Fits.{AreFor};
 ghost use Rattle.aig_check_commands.specs.Inputs.{Ran};
 ghost use Rattle.aig_check_commands.specs.Justice.{is_asked};
-ghost use Rattle.aig_check_commands.specs.Living.{ChecksMade, PrintsMade, RunsMade};
+ghost use Rattle.aig_check_commands.specs.Living.{ChecksMade, IsOnText, PrintsMade, RunsMade};
 ghost use Rattle.aig_check_commands.specs.Running.{Runs, nothing_fails, nothing_given};
-ghost use Rattle.aig_check_commands.specs.SafeBySteps.{RunsOnProofs};
 ghost use Rattle.aig_check_commands.specs.CommandWords.{beside_of, paths_of, prints, step_of};
 
-use crate::bounded::{print_bounded, print_refuted_to, print_witness_to};
+use crate::bounded::{print_bounded, print_witness_to};
+use crate::checked::print_checked;
 use crate::command::{Asked, Command, FileCommand, PairCommand};
 use crate::compared::print_equal_by;
 use crate::equality::print_always_equal;
 use crate::error::CheckError;
 use crate::justice::Justice;
-use crate::living::{made_text, write_fair};
+use crate::living::{made_text, write_no_run};
 use crate::pairs::{print_certified, print_equal, print_obligations};
-use crate::printing::{
-    after_writing, print_clauses, print_inductive, print_refuted, print_window, print_witness,
-};
+use crate::printing::{after_writing, print_clauses, print_window, print_witness};
 use crate::run::print_run;
-use crate::safe::print_safe;
-use crate::safe_by_steps::print_safe_by_steps;
 use crate::simulated::{print_obligation, print_simulated};
-use aig_answers::Window;
 use aig_base::{Sink, Source};
 use aig_command_line::{Discarded, InMemory};
 use aig_edit_laws::fair_runs_are_lassos;
@@ -63,19 +58,10 @@ fn check_file<R: Source, S: Source, W: Sink>(
 {
     let (given, _) = first_of(inputs);
     match command {
-        FileCommand::Refuted { k, optimize } => print_refuted(
-            alloc, limit, k, optimize, file, given, w,
-        ),
-        FileCommand::Inductive { k, form, optimize } => {
-            print_inductive(alloc, limit, k, form, optimize, file, given, w)
-        }
         FileCommand::Witness { k, optimize } => print_witness(
             alloc, limit, k, optimize, file, given, w,
         ),
         FileCommand::Run => print_run(alloc, limit, file, given, w),
-        FileCommand::RefutedTo { k, optimize } => {
-            print_refuted_to(alloc, limit, k, optimize, file, given, w)
-        }
         FileCommand::WitnessTo { k, optimize } => {
             print_witness_to(alloc, limit, k, optimize, file, given, w)
         }
@@ -138,41 +124,6 @@ fn check_pair<R: Source, S: Source, W: Sink>(
     }
 }
 
-/// Runs `safe` on a file, and on a list of the proofs of steps, of which the last is that of a window.
-fn check_steps<R: Source, S: Source, W: Sink>(
-    alloc: Global,
-    limit: usize,
-    k: usize,
-    form: Window,
-    base_optimize: bool,
-    step_optimize: bool,
-    file: &mut R,
-    proofs: &mut [S],
-    w: &mut W,
-) -> Result<(), CheckError>
-    requires limit { IsLimit limit }
-    requires small { k < 2 ^ 32 }
-    requires each { length proofs.old ≡ k + 2 }
-    ensures { RunsOnProofs R.left R.failed S.left S.failed W.held W.failed k form base_optimize
-        step_optimize limit file.old proofs.old w.old result file.new proofs.new w.new }
-{
-    let Some((step, bases)) = proofs.split_last_mut() else {
-        unreachable!()
-    };
-    print_safe_by_steps(
-        alloc,
-        limit,
-        k,
-        form,
-        base_optimize,
-        step_optimize,
-        file,
-        bases,
-        step,
-        w,
-    )
-}
-
 /// Runs a command that checks what is given beside its files.
 fn check<R: Source, S: Source, W: Sink>(
     alloc: Global,
@@ -192,37 +143,15 @@ fn check<R: Source, S: Source, W: Sink>(
     match command {
         Command::File(command) => check_file(alloc, limit, command, file, inputs, w),
         Command::Pair(command) => check_pair(alloc, limit, command, file, inputs, w),
-        Command::Safe {
-            k,
-            form,
+        Command::Check {
+            goal,
             base_optimize,
             step_optimize,
-        } => {
-            let (base, rest) = first_of(inputs);
-            let (step, _) = first_of(rest);
-            print_safe(
-                alloc,
-                limit,
-                k,
-                form,
-                base_optimize,
-                step_optimize,
-                file,
-                base,
-                step,
-                w,
-            )
-        }
-        Command::SafeBySteps {
-            k,
-            form,
-            base_optimize,
-            step_optimize,
-        } => check_steps(
+        } => print_checked(
             alloc,
             limit,
-            k,
-            form,
+            None,
+            goal,
             base_optimize,
             step_optimize,
             file,
@@ -346,6 +275,7 @@ fn check_made<R: Source, S: Source, W: Sink>(
 ) -> Result<(), CheckError>
     requires limit { IsLimit limit }
     requires asked { IsTrue (is_asked (Some justice) command) }
+    requires text { IsOnText command }
     requires checks { 0 < beside_of command }
     requires fits { length inputs.old + 1 ≡ paths_of command + beside_of command }
     requires small { step_of command < 2 ^ 32 }
@@ -358,7 +288,7 @@ fn check_made<R: Source, S: Source, W: Sink>(
     let text = made_text(alloc, limit, justice, file)?;
     let mut source = InMemory::new(text.as_slice());
     check(alloc, limit, command, &mut source, inputs, &mut Discarded)?;
-    after_writing(write_fair(w, command, justice.property))
+    after_writing(write_no_run(w, justice.property))
 }
 
 /// Runs a command that prints clauses of the file that is made of FILE for a justice property.
@@ -401,10 +331,27 @@ pub(crate) fn check_asked<S: Source, W: Sink>(
         w.new }
 {
     let (file, inputs) = first_of(files);
-    let command = asked.command;
-    match asked.justice {
-        None => check(alloc, limit, command, file, inputs, w),
-        Some(justice) => check_made(alloc, limit, justice, command, file, inputs, w),
+    match (asked.command, asked.justice) {
+        (
+            Command::Check {
+                goal,
+                base_optimize,
+                step_optimize,
+            },
+            justice,
+        ) => print_checked(
+            alloc,
+            limit,
+            justice,
+            goal,
+            base_optimize,
+            step_optimize,
+            file,
+            inputs,
+            w,
+        ),
+        (command, None) => check(alloc, limit, command, file, inputs, w),
+        (command, Some(justice)) => check_made(alloc, limit, justice, command, file, inputs, w),
     }
 }
 

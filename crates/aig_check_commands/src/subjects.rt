@@ -6,8 +6,8 @@ ghost use Rattle.aig_check_commands.specs.Subjects as specs;
 
 use crate::error::CheckError;
 use aig_answers::{
-    AnswerError, BoundedAnswerError, CertificateError, EqualityError, MiterError, SafetyError,
-    StepsError,
+    AnswerError, BoundedAnswerError, CertificateError, EqualityError, MiterError, PlanError,
+    SafetyError, Why,
 };
 use aig_bounded::BoundedError;
 use aig_command_line::Measure;
@@ -36,10 +36,8 @@ pub(crate) enum Subject {
     Step,
     /// STEP behind CERT and BASE.
     Third,
-    /// The proof of this step, of P0 to PK, or for the condition whose turn this is.
+    /// The proof of the question at this place of a plan, or for the condition whose turn this is.
     Nth(usize),
-    /// STEP behind P0 to PK.
-    Last,
 }
 
 /// How the place is found where reading stopped.
@@ -254,14 +252,24 @@ fn about_safety(error: SafetyError) -> About
     }
 }
 
-/// What an error of a proof for each step that a machine is safe is about.
-fn about_steps(error: StepsError) -> About
-    ensures { result ≡ specs.about_steps error }
+/// What an error of a question's proof is about.
+fn about_why(index: usize, why: Why) -> About
+    ensures { result ≡ specs.about_why index why }
+{
+    match why {
+        Why::Clauses(BoundedError::TooLarge) => whole(Subject::File),
+        Why::Clauses(BoundedError::Memory) => NOTHING,
+        Why::Refutation(error) => about_refutation(Subject::Nth(index), error),
+    }
+}
+
+/// What an error of a plan is about.
+fn about_plan(error: PlanError) -> About
+    ensures { result ≡ specs.about_plan error }
 {
     match error {
-        StepsError::File(error) => about_answer(Subject::Given, error),
-        StepsError::At { step, error } => about_answer(Subject::Nth(step), error),
-        StepsError::Step(error) => about_answer(Subject::Last, error),
+        PlanError::Refused(refused) => about_why(refused.index, refused.why),
+        _ => whole(Subject::File),
     }
 }
 
@@ -377,12 +385,11 @@ pub(crate) fn about_error(error: CheckError) -> About
         CheckError::Show(error) => about_show(error),
         CheckError::Certificate(error) => about_certificate(error),
         CheckError::Bounded(error) => about_bounded(error),
-        CheckError::Safe(error) => about_safety(error),
+        CheckError::Goal(error) => about_plan(error.error),
         CheckError::Equality(error) => about_equality(error),
         CheckError::Lasso(fault) => about_lasso(fault),
         CheckError::Miter(error) => about_miter(error),
         CheckError::Unmade(error) => about_edit(error),
-        CheckError::Steps(error) => about_steps(error),
         CheckError::Simulation(error) => about_simulation(error),
     }
 }

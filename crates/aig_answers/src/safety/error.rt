@@ -4,7 +4,6 @@ ghost use Rattle.std.specs.Prelude.{◌≡◌};
 ghost use Rattle.aig_answers.specs.declared.error.AnswerError.TheVariants as answers;
 ghost use Rattle.aig_encode.specs.declared.error.EncodeError.TheVariants as encode;
 ghost use Rattle.aig_answers.specs.declared.safety.error.SafetyError.TheVariants as errors;
-ghost use Rattle.aig_answers.specs.declared.safety.error.StepsError.TheVariants as steps;
 
 use crate::AnswerError;
 use crate::bounded_checks::BoundedAnswerError;
@@ -39,40 +38,5 @@ impl From<AnswerError> for SafetyError {
 
     fn from(error: AnswerError) -> SafetyError {
         SafetyError::File(error)
-    }
-}
-
-/// Why it isn't shown, step by step, that a machine is safe.
-#[derive(Clone, Copy, Debug, PartialEq, Eq, Error)]
-pub enum StepsError {
-    /// The file is refused, or nothing is asked of it, or its window may pass the limit.
-    #[error(transparent)]
-    File(AnswerError),
-    /// Memory ran out for the query of a step, or its proof is refused.
-    #[error("step {step}: {error}")]
-    At {
-        /// The step.
-        step: usize,
-        /// Why.
-        error: AnswerError,
-    },
-    /// Memory ran out for the window, or its proof is refused.
-    #[error("step: {0}")]
-    Step(AnswerError),
-}
-
-impl From<ReadError> for StepsError {
-    ghost from_gives = { λ e r. r ≡ steps.File (answers.Encode (encode.Read e)) };
-
-    fn from(error: ReadError) -> StepsError {
-        StepsError::File(AnswerError::Encode(EncodeError::Read(error)))
-    }
-}
-
-impl From<AnswerError> for StepsError {
-    ghost from_gives = { λ e r. r ≡ steps.File e };
-
-    fn from(error: AnswerError) -> StepsError {
-        StepsError::File(error)
     }
 }

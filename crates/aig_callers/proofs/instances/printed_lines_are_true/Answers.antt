@@ -45,9 +45,9 @@ returns-clause-refuted c file other text printed =
       told.0,
       told.1,
       (
-        told.2.1.0
+        told.2.0
             ∙ digit_line (codes "no bad state at step ") 0 (omega arith),
-        told.2.1.1,
+        told.2.1,
       ),
     )
 
@@ -59,9 +59,9 @@ returns-clause-refuted_to c file other text printed =
       told.0,
       told.1,
       (
-        told.2.1.0
+        told.2.0
             ∙ digit_line (codes "no bad state up to step ") 3 (omega arith),
-        told.2.1.1,
+        told.2.1,
       ),
     )
 
@@ -73,10 +73,10 @@ returns-clause-inductive c file other text printed =
       told.0,
       told.1,
       (
-        told.2.1.0
+        told.2.0
             ∙ digit_line (codes "no bad state at any step, if none up to step ") 2 (omega arith),
+        told.2.1.0,
         told.2.1.1,
-        told.2.1.2,
       ),
     )
 

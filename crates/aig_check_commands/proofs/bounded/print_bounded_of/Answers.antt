@@ -35,8 +35,8 @@ returns g c =
     rw (sym c.new-file.ensures, c.after_writing.ensures) (
       c.bounded.new.r.source,
       answer_ends c.write_bounded.result
-          (title_text t ++ bounded_comments made ++ dimacs_of (length made.clauses) all) tt told.verdict
-          (read_again told.answer (λ bytes f holds asks. record {
+          (title_text t ++ bounded_comments made ++ dimacs_of (length made.clauses) all)
+          told.verdict (read_again told.answer (λ bytes f holds asks. record {
             sum = sum;
             sums = summed g.B.Origin.bytes sum told.verdict start c.finish.ensures;
             made = made;

@@ -18,7 +18,7 @@ pub returns : goal.returns
 returns g c =
     let told = c.in_ok-witness.ensures in
     let witness = said_by c.in_ok-witness.witness in
-    rw c.after_writing.ensures (answer_ends c.write_witness.result (witness_text witness) tt
+    rw c.after_writing.ensures (answer_ends c.write_witness.result (witness_text witness)
     told.verdict
     (read_again told.answer (λ bytes f holds shown. record {
       witness = witness;

@@ -27,7 +27,7 @@ returns g c =
     let sums = summed g.B.Origin.bytes c.finish.result read.verdict start c.finish.ensures in
     rw (sym c.new-file.ensures) (
       c.read_unrolled.new.r.source,
-      text_ends c.print_query.result _ tt read.verdict
+      text_ends c.print_query.result _ read.verdict
           (λ text is. read_again read.answer (λ bytes f holds of.
           clauses_text (g.R.Source.left c.new-file.result.source) c.finish.result sums f c.args.limit c.args.k c.args.optimize u text of is))
           told tt,

@@ -35,7 +35,7 @@ returns g c =
     let start = ap g.R.Source.left c.new-file.ensures ∙ c.requires.origin in
     rw (sym c.new-file.ensures, c.after_writing.ensures) (
       c.read_window.new.r.source,
-      answer_ends c.write_window.result (title_text t ++ dimacs_of (length lists) all) tt
+      answer_ends c.write_window.result (title_text t ++ dimacs_of (length lists) all)
           read.verdict
           (read_again read.answer (λ bytes f holds of. record {
             sum = sum;

@@ -19,7 +19,7 @@ returns g c =
     let read = c.in_ok-asked.ensures in
     let q = c.in_ok-asked.asked in
     let told = c.print_solution.ensures in
-    solution_ends c.print_solution.result q.encoded c.args.k tt read.verdict
+    solution_ends c.print_solution.result q.encoded c.args.k read.verdict
     (λ text is. read_again read.answer (λ bytes f holds asks.
     let known = subst (λ (d : Circuit). IsKnownWitness d is.witness) asks.0.of_file is.known in
     record {

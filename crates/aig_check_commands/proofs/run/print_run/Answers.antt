@@ -14,6 +14,6 @@ returns-in_err-shown g c =
 pub returns : goal.returns
 returns g c =
     let read = c.in_ok-shown.ensures in
-    rw c.after_writing.ensures (answer_ends c.write_shown.result (shown_line c.in_ok-shown.shown) tt
+    rw c.after_writing.ensures (answer_ends c.write_shown.result (shown_line c.in_ok-shown.shown)
     read.verdict (shown_answers c.args.limit _ _ _ c.in_ok-shown.shown read.answer)
     c.write_shown.ensures)

@@ -1,7 +1,9 @@
 use Rattle.aig_base.proofs.Words.{Ok, Err, err_from_is_err_and, refl, subst, ◌∙◌}
 use Rattle.aig_format.specs.Circuit.{text_of}
 use Rattle.aig_check_commands.specs.Printing.{after_writing}
-use Rattle.aig_check_commands.specs.Living.{ChecksMade, ChecksText, ShowsFair, fair_line}
+use Rattle.aig_check_commands.specs.Living.{ChecksMade, ChecksText}
+use Rattle.aig_check_commands.specs.Goals.{no_run_line}
+use Rattle.aig_edit_laws.specs.Fair.{HasFairRun}
 use Rattle.aig_check_commands.proofs.Made.{concludes_refused, concludes_written, ran, ran_no_making, ran_no_write, ran_on_text, shows_fair, unmade, written_no_making}
 use Rattle.aig_check_commands.proofs.running.check_made.Goals as goal
 
@@ -29,13 +31,14 @@ returns-in_err-check g c =
     c.args.limit property d files others c.args.w.now c.args.w.now in
     rw (p.1, p.2) (ran g.R.Source.left g.R.Source.failed c.args.limit c.args.justice made _
     c.args.file.now _ c.in_ok-text.text (Err e)
-    (ran_no_making _ _ _ _ _ _ _ _ _ _ _ _ d files others c.in_err-check.ensures)
+    (ran_no_making _ _ _ _ _ _ _ _ _ _ _ _ d files others c.requires.text c.in_err-check.ensures)
     c.in_ok-text.ensures
     (λ f m of is. subst (λ t. made f t (Err e)) (c.new-source.ensures ∙ c.as_slice.ensures.value ∙ is)
-    (concludes_refused g.W.Sink.held g.W.Sink.failed (fair_line d property) (ShowsFair d property f)
-    (ChecksText g.S.Source.left g.S.Source.failed c.args.limit d files others text) c.args.w.now
+    (concludes_refused g.W.Sink.held g.W.Sink.failed (no_run_line property)
+    (¬ HasFairRun f property) (ChecksText g.S.Source.left g.S.Source.failed c.args.limit d files others text) c.args.w.now
     c.args.w.now e
-    (ran_no_write _ _ _ _ _ _ _ _ _ d files others e c.in_err-check.ensures) (_, _, on) refl)))
+    (ran_no_write _ _ _ _ _ _ _ _ _ d files others e c.requires.text c.in_err-check.ensures) (_, _, on)
+    refl)))
 
 pub returns : goal.returns
 returns g c =
@@ -46,15 +49,15 @@ returns g c =
     let text = c.new-source.result in
     let on = ran_on_text _ _ _ _ _ text _ _ _ _ d files others c.in_ok-check.ensures in
     let made = ChecksMade g.S.Source.left g.S.Source.failed g.W.Sink.held g.W.Sink.failed
-    c.args.limit property d files others c.args.w.now c.write_fair.new.w in
+    c.args.limit property d files others c.args.w.now c.write_no_run.new.w in
     rw c.after_writing.ensures (ran g.R.Source.left g.R.Source.failed c.args.limit c.args.justice
-    made _ c.args.file.now _ c.in_ok-text.text (after_writing c.write_fair.result)
-    (written_no_making c.write_fair.result) c.in_ok-text.ensures
+    made _ c.args.file.now _ c.in_ok-text.text (after_writing c.write_no_run.result)
+    (written_no_making c.write_no_run.result) c.in_ok-text.ensures
     (λ f m of is.
     let checks = subst (λ t. ChecksText g.S.Source.left g.S.Source.failed c.args.limit d files others
     t (Ok tt)) (c.new-source.ensures ∙ c.as_slice.ensures.value ∙ is) (_, _, on) in
     concludes_written (ChecksText g.S.Source.left g.S.Source.failed c.args.limit d files others
-    (text_of m)) c.write_fair.result checks
+    (text_of m)) c.write_no_run.result checks
     (shows_fair g.S.Source.left g.S.Source.failed c.fair_runs_are_lassos.ensures c.args.limit
-    c.args.justice f m of d files others c.requires.checks c.requires.asked checks)
-    c.write_fair.ensures))
+    c.args.justice f m of d files others c.requires.text c.requires.checks c.requires.asked checks)
+    c.write_no_run.ensures))

@@ -1,5 +1,5 @@
 use Rattle.aig_base.proofs.Words.{◌∷◌, ◌∙◌, ap, arith, sym}
-use Rattle.aig_check_commands.proofs.Made.{checks_where, prints_where}
+use Rattle.aig_check_commands.proofs.Made.{checks_where, prints_on_text, prints_where, ran_by_text}
 use Rattle.aig_check_commands.proofs.Opened.{first_taken, paths_few}
 use Rattle.aig_check_commands.proofs.running.run.Goals as goal
 
@@ -36,4 +36,8 @@ returns-in-Some g c =
     )) (c.remove-file.ensures.value) in
     let files = first ∙ ap (λ l. c.remove-file.result ∷ l) (sym c.remove-file.ensures.items) in
     let prints = sym c.prints.ensures ∙ c.if-not-prints.false in
-    (c.print_made.new.file ∷ made.0, rw (files, c.in-Some.is, prints) made.1)
+    let d = c.args.asked.command in (
+      c.print_made.new.file ∷ made.0,
+      rw (files, c.in-Some.is) (ran_by_text _ _ _ _ _ _ _ c.in-Some.justice d _ _ _ _ _ _ _
+          (prints_on_text d (prints_where d prints)) (rw prints made.1)),
+    )
