@@ -1,14 +1,5 @@
 -- What is told of a proof of some clauses is told of equal ones.
-use Rattle.aig_base.proofs.Words.{◌≡◌, ℕ, Bool, List, Option, Result, sym, ap, subst, ◌∙◌}
-use Rattle.aig_base.specs.declared.logic.literal.Lit.{Lit}
-use Rattle.aig_circuit.specs.Circuit.{Circuit}
-use Rattle.aig_cnf.specs.Cnf.{HasClauses}
-use Rattle.aig_runs.specs.Queries.{query_clauses}
-use Rattle.aig_runs.specs.WindowClauses.{AsksWindow}
-use Rattle.aig_runs.specs.declared.window.Window.{Window}
-use Rattle.aig_answers.specs.declared.circuits.CircuitQuery.{CircuitQuery}
-use Rattle.aig_answers.specs.declared.error.AnswerError.{AnswerError}
-use Rattle.aig_answers.specs.Answers.{IsCircuitQuery, TellsOfCircuit, TellsOfCircuitWindow, TellsOfProof}
+use Rattle.aig_answers.proofs.Words.{◌≡◌, ℕ, Bool, List, Option, Result, sym, ap, subst, ◌∙◌, Lit, Circuit, HasClauses, query_clauses, AsksWindow, Window, CircuitQuery, AnswerError, IsCircuitQuery, TellsOfCircuit, TellsOfCircuitWindow, TellsOfProof}
 
 pub told_alike : (lists others : List (List (List Lit))) (extra more : List (List Lit))
     (text : Option (List ℕ)) (answer : Result (Unit {0}) AnswerError) → lists ≡ others

@@ -1,28 +1,7 @@
 -- The query and the window of the file that was read.
-use Rattle.aig_base.proofs.Words.{◌≡◌, ◌≢◌, ℕ, ◌+◌, ◌≤◌, Bool, Option, Result, Ok, Err, List, [], refl, sym, subst, arith, IfOk, OnOk}
-use Rattle.aig_base.specs.declared.logic.literal.Lit.{Lit}
-use Rattle.aig_circuit.specs.Circuit.{Circuit}
-use Rattle.aig_circuit.specs.View.{lists_circuit}
-use Rattle.aig_circuit.specs.declared.view.CircuitLists.{CircuitLists}
-use Rattle.aig_cnf.specs.Cnf.{FixesRoots, HasClauses, NodeValuesSatisfy}
-use Rattle.aig_format.proofs.Words.{circuit_of, File, Accepts, Fits}
-use Rattle.aig_reader.specs.Reading.{AreListsOf, IsReadAs}
-use Rattle.aig_reader.specs.Verdicts.{Accepted, verdict_by}
-use Rattle.aig.specs.Reading.{IsFileCircuit}
-use Rattle.aig_unroll.specs.Places.{unrolled_size}
-use Rattle.aig_unroll.specs.Unroll.{UnrollsTo}
-use Rattle.aig_runs.specs.CircuitQueries.{AsksOfCircuit}
-use Rattle.aig_runs.specs.Encodes.{Encodes}
-use Rattle.aig_runs.specs.Queries.{IsQueryOf}
-use Rattle.aig_runs.specs.declared.window.Window.{Window}
-use Rattle.aig_encode.specs.Encoding.{IsQuery}
-use Rattle.aig_answers.specs.declared.circuits.CircuitQuery.{CircuitQuery}
-use Rattle.aig_answers.specs.declared.error.AnswerError.{AnswerError}
+use Rattle.aig_answers.proofs.Words.{◌≡◌, ◌≢◌, ℕ, ◌+◌, ◌≤◌, Bool, Option, Result, Ok, Err, List, [], refl, sym, subst, arith, IfOk, OnOk, Lit, Circuit, lists_circuit, CircuitLists, FixesRoots, HasClauses, NodeValuesSatisfy, circuit_of, File, Accepts, Fits, AreListsOf, IsReadAs, Accepted, verdict_by, IsFileCircuit, unrolled_size, UnrollsTo, AsksOfCircuit, Encodes, IsQueryOf, Window, IsQuery, CircuitQuery, AnswerError, IsAsked, IsCircuitQuery, IsSaidBy, IsUnrolledWindow, circuit_window_verdict, verdict_of, circuit_verdict, IsUnrolledOf, UnrolledCircuit, Unrolls}
 use Rattle.aig_answers.specs.declared.windows.UnrolledWindow.{UnrolledWindow}
-use Rattle.aig_answers.specs.Answers.{IsAsked, IsCircuitQuery, IsSaidBy, IsUnrolledWindow, circuit_window_verdict, verdict_of}
-use Rattle.aig_answers.specs.CircuitVerdicts.{circuit_verdict}
 use Rattle.aig_runs.proofs.Asking.{unrolls_to}
-use Rattle.aig_runs.specs.Unrolled.{IsUnrolledOf, UnrolledCircuit, Unrolls}
 use Rattle.aig_answers.proofs.Verdicts.{read_unrolled, bads_of}
 
 -- that what encodes a file's circuit encodes the file

@@ -1,34 +1,13 @@
 -- What is asked of a file that was read.
-use Rattle.aig_base.proofs.Words.{◌≡◌, ◌≢◌, ℕ, ◌<◌, Bool, not, Option, List, [], ◌∷◌, length, map, refl, sym, ap, subst, ◌∙◌, arith, ◌+◌, ◌≤◌, All-from_recursion, All, AllZip}
-use Rattle.aig_base.specs.Clauses.{AreBelow, variable_of}
-use Rattle.aig_base.proofs.Literals.{variable_of-lit_to}
-use Rattle.aig_circuit.specs.declared.edge.AigEdge.{AigEdge}
-use Rattle.aig_circuit.specs.declared.view.CircuitLists.{CircuitLists}
-use Rattle.aig_circuit.proofs.Words.{Circuit, IsCircuit, IsClosed, IsInRange, lit_of, HasConstantInit, Properties, lists_circuit}
-use Rattle.aig_format.proofs.Words.{circuit_of, edge_of, File, Accepts, Fits}
-use Rattle.aig_format.proofs.Circuits.{IsCircuit-of_file}
-use Rattle.aig_format_laws.proofs.Closed.{IsClosed-of_file}
-use Rattle.aig_format_laws.proofs.Writable.{plain_starts}
-use Rattle.aig_reader.specs.Reading.{AreListsOf, IsReadAs}
-use Rattle.aig_runs.specs.Queries.{unit_clauses}
-use Rattle.aig_witness.specs.declared.solutions.error.SolutionError.{SolutionError}
+use Rattle.aig_answers.proofs.Words.{◌≡◌, ◌≢◌, ℕ, ◌<◌, Bool, not, Option, List, [], ◌∷◌, length, map, refl, sym, ap, subst, ◌∙◌, arith, ◌+◌, ◌≤◌, All-from_recursion, All, AllZip, AreBelow, variable_of, variable_of-lit_to, AigEdge, CircuitLists, IsInRange, lit_of, HasConstantInit, Properties, circuit_of, edge_of, File, Accepts, Fits, IsCircuit-of_file, IsClosed-of_file, plain_starts, AreListsOf, IsReadAs, unit_clauses, SolutionError, IsKnownWitness, Witness, said_by, IsQuestion, question_size, BoundedAnswerError, BoundedClauses, AsksBounded, AsksOfBads, IsAskedWithin, IsSaidOfBads, RefusesAnswer, RefusesSolution, TellsOfSize, IsEncoded, IsEncodedQuestion, IsNamed, WitnessWithin, SaysValues, SaysWitness, Named}
+use Rattle.aig_circuit.proofs.Words.{Circuit, IsCircuit, IsClosed, lists_circuit}
 use Rattle.aig_witness.specs.declared.witness.Witness as witnesses
 use Rattle.aig_witness.specs.Machine.{ShowsBad}
-use Rattle.aig_witness.specs.Shown.{IsKnownWitness}
-use Rattle.aig_witness.specs.Witness.{Witness, said_by}
-use Rattle.aig_bounded.specs.Question.{IsQuestion, question_size}
 use Rattle.aig_bounded.specs.declared.error.BoundedError.TheVariants.{TooLarge}
-use Rattle.aig_answers.specs.declared.bounded_checks.error.BoundedAnswerError.{BoundedAnswerError}
 use Rattle.aig_answers.specs.declared.bounded_checks.error.BoundedAnswerError.TheVariants as errors
-use Rattle.aig_answers.specs.declared.bounded_checks.clauses.BoundedClauses.{BoundedClauses}
-use Rattle.aig_answers.specs.Asking.{AsksBounded, AsksOfBads, IsAskedWithin, IsSaidOfBads, RefusesAnswer, RefusesSolution, TellsOfSize, verdict_of}
-use Rattle.aig_answers.specs.Encoded.{IsEncoded, IsEncodedQuestion}
-use Rattle.aig_answers.specs.Naming.{IsNamed}
-use Rattle.aig_answers.specs.Solving.{WitnessWithin}
-use Rattle.aig_answers.specs.Said.{SaysValues, SaysWitness}
+use Rattle.aig_answers.specs.Asking.{verdict_of}
 use Rattle.aig_answers.proofs.Single.{refused_same, values_same}
 use Rattle.aig_answers.proofs.BoundedVerdicts.{count_of}
-use Rattle.aig_answers.specs.declared.bounded_checks.naming.Named.{Named}
 use Rattle.aig_bounded.specs.declared.question.BoundedCircuit.{BoundedCircuit}
 
 -- ---- of a circuit

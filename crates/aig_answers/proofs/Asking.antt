@@ -1,22 +1,7 @@
 -- The clauses of a window, from their parts.
-use Rattle.aig_base.proofs.Words.{◌≡◌, ℕ, ◌+◌, ◌-◌, ◌*◌, ◌^◌, ◌<◌, ◌≤◌, Bool, false, List, [], ◌++◌, length, take, drop, refl, sym, subst, ap, ◌∙◌, arith, length-drop, add-mul, length-map, length-take-le, slice_get_within, take_all, All-map, All-weaker}
-use Rattle.std.specs.Prelude.{replicate}
-use Rattle.aig_base.specs.declared.logic.literal.Lit.{Lit}
-use Rattle.aig_base.specs.Clauses.{AreBelow, AreRelations}
-use Rattle.aig_circuit.specs.declared.edge.AigEdge.{AigEdge}
-use Rattle.aig_circuit.proofs.Circuits.{latch_leaves-leaves}
-use Rattle.aig_circuit.proofs.Trees.{kind_at-within}
-use Rattle.aig_circuit.proofs.Words.{edge_to, Circuit, IsCircuit, IsInRange, IsLeaf}
-use Rattle.aig_circuit.specs.Circuit.{latch_leaves}
-use Rattle.aig_circuit.specs.declared.node.AigNodeType.TheVariants.{Leaf}
-use Rattle.aig_cnf.specs.Cnf.{AreNeeded, FixesRoots, HasClauses, NodeValuesSatisfy}
-use Rattle.aig_unroll.specs.Unroll.{UnrollsTo}
-use Rattle.aig_answers.specs.Answers.{window_size}
+use Rattle.aig_answers.proofs.Words.{◌≡◌, ℕ, ◌+◌, ◌-◌, ◌*◌, ◌^◌, ◌<◌, ◌≤◌, Bool, false, List, [], ◌++◌, length, take, drop, refl, sym, subst, ap, ◌∙◌, arith, length-drop, add-mul, length-map, length-take-le, slice_get_within, take_all, All-map, All-weaker, replicate, Lit, AreBelow, AreRelations, AigEdge, latch_leaves-leaves, kind_at-within, edge_to, IsInRange, IsLeaf, latch_leaves, Leaf, AreNeeded, FixesRoots, HasClauses, NodeValuesSatisfy, UnrollsTo, window_size, window_below, Window, Plain, Distinct, AsksWindow, count_free, induction_clauses, pair_clauses, state_at, state_edges, states_clauses, watched, window_clauses}
+use Rattle.aig_circuit.proofs.Words.{Circuit, IsCircuit}
 use Rattle.aig_answers.proofs.Growing.{free, free_length}
-use Rattle.aig_runs.proofs.Below.{window_below}
-use Rattle.aig_runs.specs.declared.window.Window.{Window}
-use Rattle.aig_runs.specs.declared.window.Window.TheVariants.{Plain, Distinct}
-use Rattle.aig_runs.specs.WindowClauses.{AsksWindow, count_free, induction_clauses, pair_clauses, state_at, state_edges, states_clauses, watched, window_clauses}
 
 -- the leaves of latches may be outputs
 pub watched_circuit : (form : Window) (c : Circuit) → IsCircuit c → IsCircuit (watched form c)

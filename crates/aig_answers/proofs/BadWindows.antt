@@ -1,14 +1,6 @@
 -- The clauses of a window can be satisfied exactly where there is one with a bad literal at its
 -- end.
-use Rattle.aig_base.proofs.Words.{◌↔◌, ℕ, ◌+◌, Bool, List, ◌++◌, IsTrue, sym, ◌∙◌, list_any, false≢true, true_from_ne_false}
-use Rattle.aig_base.specs.declared.logic.literal.Lit.{Lit}
-use Rattle.aig_base.specs.Formula.{IsSatisfiable, clauses_in}
-use Rattle.aig_format.proofs.Words.{circuit_of, File, Fits, value_of_literal}
-use Rattle.aig_runs.specs.Induction.{IsKInductive}
-use Rattle.aig_runs.specs.Safety.{IsGood}
-use Rattle.aig_runs.specs.WindowClauses.{AsksWindow}
-use Rattle.aig_runs.specs.declared.window.Window.{Window}
-use Rattle.aig_runs.proofs.Rows.{any_none}
+use Rattle.aig_answers.proofs.Words.{◌↔◌, ℕ, ◌+◌, Bool, List, ◌++◌, IsTrue, sym, ◌∙◌, list_any, false≢true, true_from_ne_false, Lit, IsSatisfiable, clauses_in, circuit_of, File, Fits, value_of_literal, IsKInductive, IsGood, AsksWindow, Window, any_none}
 use Rattle.aig_answers.proofs.Deciding.{satisfiable_unless}
 use Rattle.aig_answers.proofs.WindowRuns.{HasBadWindow, satisfied_window}
 

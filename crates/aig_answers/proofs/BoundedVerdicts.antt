@@ -1,20 +1,9 @@
 -- What is said of a file that was read, and of its question.
-use Rattle.aig_base.proofs.Words.{◌≡◌, ◌≢◌, ℕ, Bool, Option, List, [], ◌∷◌, length, Result, Ok, Err, refl, sym, ap, subst, ◌∙◌, arith, ◌==◌, if◌then◌else◌, IfOk, IsErrOf, OnOk, length-map, eq-eqb, ne_eqb}
-use Rattle.aig_circuit.specs.Circuit.{Circuit}
-use Rattle.aig_circuit.specs.declared.edge.AigEdge.{AigEdge}
-use Rattle.aig_circuit.specs.declared.view.CircuitLists.{CircuitLists}
-use Rattle.aig_format.proofs.Words.{edge_of, File, Accepts}
-use Rattle.aig_reader.specs.declared.error.ReadError.{ReadError}
-use Rattle.aig_reader.specs.Reading.{AreListsOf, IsReadAs}
+use Rattle.aig_answers.proofs.Words.{◌≡◌, ◌≢◌, ℕ, Bool, Option, List, [], ◌∷◌, length, Result, Ok, Err, refl, sym, ap, subst, ◌∙◌, arith, ◌==◌, if◌then◌else◌, IfOk, IsErrOf, OnOk, length-map, eq-eqb, ne_eqb, Circuit, AigEdge, CircuitLists, edge_of, File, Accepts, ReadError, AreListsOf, IsReadAs, Accepted, IsOfFile, IsSaidOf, Judges, NoBads, Short, Verdict, verdict_by, of_no_file, refused_again, said_of_read, SolutionError, BoundedClauses, BoundedAnswerError, IsOfWitness, IsSaidOfBads, RefusesAnswer, bounded_verdict}
 use Rattle.aig_reader.specs.Verdicts as reading
-use Rattle.aig_reader.specs.Verdicts.{Accepted, IsOfFile, IsSaidOf, Judges, NoBads, Short, Verdict, verdict_by}
-use Rattle.aig_reader.proofs.Verdicts.{of_no_file, refused_again, said_of_read}
-use Rattle.aig_witness.specs.declared.solutions.error.SolutionError.{SolutionError}
 use Rattle.aig_witness.specs.declared.solutions.error.SolutionError.TheVariants as solutions
-use Rattle.aig_answers.specs.declared.bounded_checks.clauses.BoundedClauses.{BoundedClauses}
-use Rattle.aig_answers.specs.declared.bounded_checks.error.BoundedAnswerError.{BoundedAnswerError}
 use Rattle.aig_answers.specs.declared.bounded_checks.error.BoundedAnswerError.TheVariants as errors
-use Rattle.aig_answers.specs.Asking.{IsOfWitness, IsSaidOfBads, RefusesAnswer, bounded_verdict, verdict_of}
+use Rattle.aig_answers.specs.Asking.{verdict_of}
 
 -- ---- of a file
 

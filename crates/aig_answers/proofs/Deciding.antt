@@ -1,9 +1,6 @@
 -- Whether some assignment satisfies clauses is decided, since they have finitely many variables.
-use Rattle.aig_base.proofs.Words.{◌≡◌, ℕ, zero, suc, ◌+◌, ◌<◌, Bool, true, false, ◌||◌, ◌⊎◌, inl, inr, List, [], ◌∷◌, IsTrue, refl, sym, ap, ◌∙◌, arith, false≢true}
-use Rattle.std.specs.Prelude.{◌&&◌}
-use Rattle.aig_base.specs.declared.logic.literal.Lit.{Lit}
-use Rattle.aig_base.specs.Clauses.{are_true, is_positive, is_true_clause, literal_value, variable_of, with_polarity}
-use Rattle.aig_base.specs.Formula.{IsSatisfiable}
+use Rattle.aig_answers.proofs.Words.{◌≡◌, ℕ, zero, suc, ◌+◌, ◌<◌, Bool, true, false, ◌||◌, ◌⊎◌, inl, inr, List, [], ◌∷◌, IsTrue, refl, sym, ap, ◌∙◌, arith, false≢true, ◌&&◌, Lit, are_true, is_positive, is_true_clause, variable_of, with_polarity, IsSatisfiable}
+use Rattle.aig_base.specs.Clauses.{literal_value}
 
 -- ---- tests of assignments
 

@@ -1,14 +1,5 @@
 -- States differ under an assignment that satisfies the clauses that tell them apart.
-use Rattle.aig_base.proofs.Words.{◌≡◌, ℕ, zero, suc, ◌+◌, ◌*◌, ◌<◌, Bool, true, false, not, ◌||◌, inl, inr, List, [], ◌∷◌, length, IsTrue, refl, sym, ap, subst, ◌∙◌, arith, AllByRecursion, AllZip, cases_lt, false≢true}
-use Rattle.aig_base.specs.Clauses.{is_true_clause}
-use Rattle.aig_base.proofs.Literals.{literal_value-lit_to}
-use Rattle.aig_circuit.specs.declared.edge.AigEdge.{AigEdge}
-use Rattle.aig_circuit.specs.Edge.{inverse}
-use Rattle.aig_cnf.specs.Cnf.{edge_in}
-use Rattle.aig_cnf.proofs.Forms.{edge_in-inverse, literal_value-lit_of}
-use Rattle.aig_format.proofs.Entries.{rec_append}
-use Rattle.aig_runs.specs.WindowClauses.{apart_clauses, count_pairs, difference_clauses, distinct_clauses, pair_clauses, pairwise_clauses, state_at, variables_from}
-use Rattle.aig_runs.proofs.Further.{Holds}
+use Rattle.aig_answers.proofs.Words.{◌≡◌, ℕ, zero, suc, ◌+◌, ◌*◌, ◌<◌, Bool, true, false, not, ◌||◌, inl, inr, List, [], ◌∷◌, length, IsTrue, refl, sym, ap, subst, ◌∙◌, arith, AllByRecursion, AllZip, cases_lt, false≢true, is_true_clause, literal_value-lit_to, AigEdge, inverse, edge_in, edge_in-inverse, literal_value-lit_of, rec_append, apart_clauses, count_pairs, difference_clauses, distinct_clauses, pair_clauses, pairwise_clauses, state_at, variables_from, Holds}
 
 -- a variable that says that two values differ is false where they don't
 says_nothing : (d a b : Bool) → a ≡ b → IsTrue (not d || (a || (b || false)))

@@ -1,20 +1,10 @@
 -- Wrong answers, of which the definitions are false: of another step, of a window for which there is
 -- no room, and of a file that asks nothing.
-use Rattle.aig_base.proofs.Words.{◌≡◌, ℕ, zero, suc, ◌+◌, ◌*◌, Bool, true, false, ◌&&◌, ◌||◌, None, Some, List, [], ◌∷◌, refl, sym, arith, ◌==◌, false≢true}
-use Rattle.aig_base.specs.declared.logic.three.Lbool.TheVariants.{FALSE, TRUE, NONE}
-use Rattle.aig_bounded.specs.declared.place.Place.{Place}
-use Rattle.aig_circuit.specs.declared.node.AigNodeType.TheVariants.{False, Leaf}
-use Rattle.aig_circuit.specs.declared.node.AigLatch.{AigLatch}
-use Rattle.aig_circuit.proofs.Words.{Circuit, only_false, edge_to, no_properties, IsRun, IsInitial}
+use Rattle.aig_answers.proofs.Words.{◌≡◌, ℕ, zero, suc, ◌+◌, ◌*◌, Bool, true, false, ◌||◌, None, Some, List, [], ◌∷◌, refl, sym, arith, ◌==◌, false≢true, FALSE, TRUE, NONE, Place, False, Leaf, AigLatch, only_false, edge_to, no_properties, IsRun, IsInitial, Text, File, Accepts, circuit_of, Accepted, Crowded, IsSaidOf, IsVerdictOn, NoBads, Short, IsCircuitSafeAt, Plain, Distinct, asked_verdict, window_size, window_verdict, IsSaid}
+use Rattle.aig_base.proofs.Words.{◌&&◌}
+use Rattle.aig_circuit.proofs.Words.{Circuit}
 use Rattle.aig_circuit.specs.Tree.{node_value, tree_of}
-use Rattle.aig_format.specs.declared.FileKind.TheVariants.{Text}
-use Rattle.aig_format.proofs.Words.{File, Accepts, circuit_of}
 use Rattle.aig_format.specs.Numbering.{node_of_variable, variables_in_order}
-use Rattle.aig_reader.specs.Verdicts.{Accepted, Crowded, IsSaidOf, IsVerdictOn, NoBads, Short}
-use Rattle.aig_runs.specs.Safety.{IsCircuitSafeAt}
-use Rattle.aig_runs.specs.declared.window.Window.TheVariants.{Plain, Distinct}
-use Rattle.aig_answers.specs.Answers.{asked_verdict, window_size, window_verdict}
-use Rattle.aig_answers.specs.Said.{IsSaid}
 
 -- ---- another step
 

@@ -1,12 +1,8 @@
 -- Lists of clauses and variables that grow by one.
-use Rattle.aig_base.proofs.Words.{◌≡◌, ℕ, zero, suc, ◌+◌, ◌<◌, true, false, Result, Ok, Err, List, [], ◌∷◌, ◌++◌, length, take, get_or, refl, sym, ap, ◌∙◌, arith, append_assoc, length-append}
-use Rattle.std.specs.Prelude.{replicate, OnOk}
-use Rattle.std.proofs.lemmas.List.{take_all, length-replicate, replicate-append-replicate}
-use Rattle.aig_base.specs.declared.logic.literal.Lit.{Lit}
-use Rattle.aig_base.specs.Clauses.{lit_to}
-use Rattle.aig_circuit.specs.declared.edge.AigEdge.{AigEdge}
-use Rattle.aig_circuit.specs.Edge.{inverse, lit_of}
-use Rattle.aig_runs.specs.WindowClauses.{difference_clauses, pair_clauses, variables_from}
+use Rattle.aig_answers.proofs.Words.{◌≡◌, ℕ, zero, suc, ◌+◌, ◌<◌, true, false, Result, Ok, Err, List, [], ◌∷◌, ◌++◌, length, take, get_or, refl, sym, ap, ◌∙◌, arith, append_assoc, length-append, replicate, length-replicate, replicate-append-replicate, Lit, lit_to, AigEdge, inverse, difference_clauses, pair_clauses, variables_from}
+use Rattle.std.specs.Prelude.{OnOk}
+use Rattle.std.proofs.lemmas.List.{take_all}
+use Rattle.aig_circuit.specs.Edge.{lit_of}
 
 -- the two clauses of one pair of edges
 abbrev pub two_clauses : ℕ → AigEdge → AigEdge → List (List Lit)

@@ -1,14 +1,7 @@
 -- What the safety of the live circuit of a justice property shows of the file.
-use Rattle.aig_base.proofs.Words.{◌↔◌, ℕ, sym, ap, arith, length}
-use Rattle.aig_answers.specs.Answers.{IsCircuitOf, without_names}
-use Rattle.aig_circuit.specs.Circuit.{Circuit}
+use Rattle.aig_answers.proofs.Words.{◌↔◌, ℕ, sym, ap, arith, length, IsCircuitOf, without_names, Circuit, again_fits, file_of, File, Fits, Text, safe_is, IsSafeTo}
 use Rattle.aig_edits.specs.Lives.{IsLiveFile}
-use Rattle.aig_edits.proofs.Again.{again_fits}
-use Rattle.aig_format.proofs.Words.{file_of, File, Fits}
-use Rattle.aig_format.specs.declared.FileKind.TheVariants.{Text}
 use Rattle.aig_edit_laws.specs.Fair.{HasFairLasso, HasFairRun}
-use Rattle.aig_runs.proofs.SafeSteps.{safe_is}
-use Rattle.aig_runs.specs.Queries.{IsSafeTo}
 
 -- where it is safe at every step, there is no fair run
 pub no_run : (j : ℕ) (f : File) (m : Circuit) → IsLiveFile j f m

@@ -1,3 +1,4 @@
+mod Words
 mod Pairs
 mod Growing
 mod Asking

@@ -1,29 +1,15 @@
 -- What the certificate of a miter shows of the two files.
-use Rattle.aig_base.proofs.Words.{◌≡◌, ℕ, ◌*◌, ◌≤◌, ◌^◌, Bool, List, Option, length, Result, Ok, Err, refl, sym, ap, subst, arith, length-map}
+use Rattle.aig_answers.proofs.Words.{◌≡◌, ℕ, ◌*◌, ◌≤◌, ◌^◌, Bool, List, Option, length, Result, Ok, Err, refl, sym, ap, subst, arith, length-map, Circuit, IsCircuit, literal_of, IsJointOf, IsMisfit, IsRefusalOf, counted, Certificate, Miter, circuit_of, file_of, latch_line, without_other_names, File, Accepts, FitsFormat, IsCircuit-of_file, Text, AreEqualMachinesBy, Comparison, safe_is, Certifies, CertifiesMiter, IsOfCertificate, ReadsBeside, HoldsBeside, HoldsBoth, StandsBeside, CertificateError}
 use Rattle.std.specs.Prelude.{IfErr}
-use Rattle.aig_circuit.specs.Circuit.{Circuit, IsCircuit}
-use Rattle.aig_circuit.specs.Edge.{literal_of}
 use Rattle.aig_edits.proofs.JointFiles.{counted-of}
 use Rattle.aig_edits.specs.Circuits.{IsJoinOf, counted_circuit}
-use Rattle.aig_edits.specs.Joints.{IsJointOf, IsMisfit, IsRefusalOf, counted}
 use Rattle.aig_edits.specs.declared.pair_error.PairError.{PairError}
 use Rattle.aig_edits.specs.declared.pair_error.PairError.TheVariants as pair
-use Rattle.aig_edits.specs.declared.pairing.Pairing.TheVariants.{Certificate, Miter}
-use Rattle.aig_format.proofs.Words.{circuit_of, file_of, latch_line, without_other_names, File, Accepts, FitsFormat}
-use Rattle.aig_format.proofs.Circuits.{IsCircuit-of_file}
-use Rattle.aig_format.specs.declared.FileKind.TheVariants.{Text}
 use Rattle.aig_format.specs.Written.{file_text}
 use Rattle.aig_join.proofs.Certified.{IsCircuit-certified}
 use Rattle.aig_join.proofs.Written.{written-certified}
 use Rattle.aig_join.specs.Certificate.{HasLeavesOf, certified}
-use Rattle.aig_join.specs.Constraints.{AreEqualMachinesBy}
 use Rattle.aig_join.specs.Files.{HasLinesOf}
-use Rattle.aig_join.specs.declared.comparison.Comparison.{Comparison}
-use Rattle.aig_runs.proofs.SafeSteps.{safe_is}
-use Rattle.aig_answers.specs.Certificates.{Certifies}
-use Rattle.aig_answers.specs.Comparing.{CertifiesMiter, IsOfCertificate, ReadsBeside}
-use Rattle.aig_answers.specs.PairParts.{HoldsBeside, HoldsBoth, StandsBeside}
-use Rattle.aig_answers.specs.declared.certificates.error.CertificateError.{CertificateError}
 use Rattle.aig_answers.specs.declared.certificates.error.CertificateError.TheVariants as errors
 use Rattle.aig_answers.proofs.PairAnswering.{Known, certifies}
 use Rattle.aig_answers.proofs.Naming.{UnrollsByNone, both_told}

@@ -1,21 +1,11 @@
 -- Names are nothing to the clauses of a window.
 use Rattle.std.proofs.Common.{◌≡◌, ℕ, zero, suc, ◌+◌, ◌≤◌, Bool, List, refl, sym, ap, subst, ◌∙◌, arith}
-use Rattle.std.specs.FinMap.{FinMap}
-use Rattle.std.specs.Ordering.{nat_cmp}
-use Rattle.std.specs.Prelude.{◌++◌, [], length, replicate}
-use Rattle.aig_base.specs.declared.logic.literal.Lit.{Lit}
-use Rattle.aig_circuit.specs.Circuit.{Circuit, IsCircuit}
+use Rattle.aig_answers.proofs.Words.{FinMap, nat_cmp, replicate, Lit, Circuit, IsCircuit, IsCircuit-of_file, AsksWindow, count_free, watched, window_clauses, Window, Plain, Distinct, Reads, UnrollsTo, IsCircuitOf}
+use Rattle.std.specs.Prelude.{◌++◌, [], length}
 use Rattle.aig_format.specs.Circuit.{circuit_of}
 use Rattle.aig_format.specs.File.{File}
 use Rattle.aig_format.specs.Fits.{Fits}
-use Rattle.aig_format.proofs.Circuits.{IsCircuit-of_file}
-use Rattle.aig_runs.specs.WindowClauses.{AsksWindow, count_free, watched, window_clauses}
-use Rattle.aig_runs.specs.declared.window.Window.{Window}
-use Rattle.aig_runs.specs.declared.window.Window.TheVariants.{Plain, Distinct}
 use Rattle.aig_unroll.specs.Frame.{with_step, with_steps}
-use Rattle.aig_unroll.specs.Places.{Reads}
-use Rattle.aig_unroll.specs.Unroll.{UnrollsTo}
-use Rattle.aig_answers.specs.Answers.{IsCircuitOf}
 
 module _ (names : FinMap nat_cmp (List ℕ)) where
   -- a circuit with these names

@@ -1,15 +1,8 @@
 -- The names of leaves, and what stands at places.
-use Rattle.aig_base.proofs.Words.{◌≡◌, ◌≢◌, ℕ, ◌+◌, ◌<◌, ◌⊎◌, eqb, true, false, List, [], ◌∷◌, ◌++◌, length, get_or, set, take, inl, inr, refl, sym, subst, ap, ◌∙◌, arith, AllZip, slice_get-get_or, All-contains}
+use Rattle.aig_answers.proofs.Words.{◌≡◌, ◌≢◌, ℕ, ◌+◌, ◌<◌, ◌⊎◌, eqb, true, false, List, [], ◌∷◌, ◌++◌, length, get_or, set, take, inl, inr, refl, sym, subst, ap, ◌∙◌, arith, AllZip, slice_get-get_or, All-contains, eqb_tells, get_or-map, get_or-set_other, get_or-set_same, get_or_default, take_more, AigLatch, Circuit, IsCircuit, IsClosed, latch_leaves, kind_at-within, Place, Named, HasName, IsNamed, leaf_of}
 use Rattle.std.specs.Prelude.{All, Some, ◌≤◌}
-use Rattle.std.proofs.lemmas.Bool.Decides.{eqb_tells}
-use Rattle.std.proofs.lemmas.List.{get_or-map, get_or-set_other, get_or-set_same, get_or_default, length-map, take_more}
-use Rattle.aig_circuit.specs.declared.node.AigLatch.{AigLatch}
-use Rattle.aig_circuit.specs.Circuit.{Circuit, IsCircuit, IsClosed, IsLeaf, latch_leaves}
-use Rattle.aig_circuit.proofs.Trees.{kind_at-within}
-use Rattle.aig_bounded.specs.declared.place.Place.{Place}
-use Rattle.aig_answers.specs.declared.bounded_checks.naming.Named.{Named}
-use Rattle.aig_answers.specs.Encoded.{HasName}
-use Rattle.aig_answers.specs.Naming.{IsNamed, leaf_of}
+use Rattle.std.proofs.lemmas.List.{length-map}
+use Rattle.aig_circuit.specs.Circuit.{IsLeaf}
 
 module _ (c : Circuit) (names : List Named) (n : ℕ) (name : Named) (there : n < length names) (is :
     leaf_of c name.is_latch name.number ≡ Some n) where

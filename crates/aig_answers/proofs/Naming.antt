@@ -1,19 +1,6 @@
 -- Names are nothing to what proofs show of a joint circuit.
-use Rattle.aig_base.proofs.Words.{◌≡◌, ℕ, Bool, List, Option, Result, Ok, Err, subst}
-use Rattle.std.specs.FinMap.{FinMap}
-use Rattle.std.specs.Ordering.{nat_cmp}
+use Rattle.aig_answers.proofs.Words.{◌≡◌, ℕ, Bool, List, Option, Result, Ok, Err, subst, FinMap, nat_cmp, IsCircuitQuery, CircuitQuery, AnswerError, Circuit, IsCircuit, HasCircuitWitness, IsCircuitSafeAt, Plain, UnrollsTo, TellsOfQuery, TellsOfTwo, HasNoWindow, HoldsBoth, CertificateError}
 use Rattle.aig_answers.proofs.NamelessWindows.{window_named, with_names}
-use Rattle.aig_answers.specs.Answers.{IsCircuitQuery}
-use Rattle.aig_answers.specs.declared.circuits.CircuitQuery.{CircuitQuery}
-use Rattle.aig_answers.specs.declared.error.AnswerError.{AnswerError}
-use Rattle.aig_circuit.specs.Circuit.{Circuit, IsCircuit}
-use Rattle.aig_runs.specs.CircuitQueries.{HasCircuitWitness}
-use Rattle.aig_runs.specs.Safety.{IsCircuitSafeAt}
-use Rattle.aig_runs.specs.declared.window.Window.TheVariants.{Plain}
-use Rattle.aig_unroll.specs.Unroll.{UnrollsTo}
-use Rattle.aig_answers.specs.Certificates.{TellsOfQuery, TellsOfTwo}
-use Rattle.aig_answers.specs.PairParts.{HasNoWindow, HoldsBoth}
-use Rattle.aig_answers.specs.declared.certificates.error.CertificateError.{CertificateError}
 use Rattle.aig_answers.specs.declared.certificates.error.CertificateError.TheVariants as errors
 
 -- a circuit is itself with no step more

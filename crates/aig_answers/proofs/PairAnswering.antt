@@ -1,30 +1,10 @@
 -- What proofs of a joint circuit's clauses show of the two files.
-use Rattle.aig_base.proofs.Words.{◌≡◌, ℕ, ◌≤◌, Bool, List, Option, ◌++◌, Result, Ok, Err, refl, sym, subst, arith}
+use Rattle.aig_answers.proofs.Words.{◌≡◌, ℕ, ◌≤◌, Bool, List, Option, ◌++◌, Result, Ok, Err, refl, sym, subst, arith, IsSatisfiable, clauses_in, Lit, Circuit, IsCircuit, IsJointOf, Certificate, Miter, Comparison, IsReadAgain, circuit_of, file_of, without_other_names, File, Fits, IsCircuit-of_file, Text, Accepted, verdict_by, witness_back, witness_forth, IsKInductive, IsSafeTo, IsCircuitSafeAt, IsSafeAt, AsksWindow, Window, Plain, CertificateError, Certifies, Equals, IsOfClauses, IsOwn, Obliges, first_verdict, second_verdict, AsksBoth, HasNoWindow, HoldsBoth, HoldsStep}
 use Rattle.std.specs.Prelude.{IfErr, length}
 use Rattle.aig_answers.proofs.NamelessWindows.{window_named}
-use Rattle.aig_base.specs.Formula.{IsSatisfiable, clauses_in}
-use Rattle.aig_base.specs.declared.logic.literal.Lit.{Lit}
-use Rattle.aig_circuit.specs.Circuit.{Circuit, IsCircuit}
-use Rattle.aig_edits.specs.Joints.{IsJointOf}
-use Rattle.aig_edits.specs.declared.pairing.Pairing.TheVariants.{Certificate, Miter}
-use Rattle.aig_join.specs.declared.comparison.Comparison.{Comparison}
 use Rattle.aig_edit_laws.proofs.Written.{JoinsWitnesses, written_witnesses}
-use Rattle.aig_format.proofs.Words.{IsReadAgain, circuit_of, file_of, without_other_names, File, Fits}
-use Rattle.aig_format.proofs.Circuits.{IsCircuit-of_file}
-use Rattle.aig_format.specs.declared.FileKind.TheVariants.{Text}
-use Rattle.aig_reader.specs.Verdicts.{Accepted, verdict_by}
-use Rattle.aig_runs.proofs.Witnesses.{witness_back, witness_forth}
-use Rattle.aig_runs.specs.Induction.{IsKInductive}
-use Rattle.aig_runs.specs.Queries.{IsSafeTo}
-use Rattle.aig_runs.specs.Safety.{IsCircuitSafeAt, IsSafeAt}
-use Rattle.aig_runs.specs.WindowClauses.{AsksWindow}
-use Rattle.aig_runs.specs.declared.window.Window.{Window}
-use Rattle.aig_runs.specs.declared.window.Window.TheVariants.{Plain}
-use Rattle.aig_answers.specs.declared.certificates.error.CertificateError.{CertificateError}
 use Rattle.aig_answers.specs.declared.certificates.error.CertificateError.TheVariants as errors
-use Rattle.aig_answers.specs.Certificates.{Certifies, Equals, IsOfClauses, IsOwn, Obliges, first_verdict, second_verdict}
 use Rattle.aig_answers.specs.declared.certificates.asking.Obligations.{Obligations}
-use Rattle.aig_answers.specs.PairParts.{AsksBoth, HasNoWindow, HoldsBoth, HoldsStep}
 use Rattle.aig_answers.proofs.Telling.{induction_of_step, query_of_window}
 
 -- ---- both files were taken

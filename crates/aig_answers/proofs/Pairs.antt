@@ -1,15 +1,7 @@
 -- How many pairs there are.
-use Rattle.std.proofs.Common.{◌≡◌, ◌≢◌, List, length, sym, ℕ, zero, suc, ◌+◌, ◌-◌, ◌*◌, ◌/◌, ◌%◌, ◌<◌, ◌≤◌, refl, ap, subst, ◌∙◌, inl, inr, arith, mul_assoc, mul_comm}
+use Rattle.aig_answers.proofs.Words.{◌/◌, ◌%◌, mul_assoc, mul_comm, cases_lt, AigEdge, AigLatch, Circuit, unrolled_size, Window, Plain, Distinct, count_pairs, distinct_clauses, pairwise_clauses, window_size}
+use Rattle.std.proofs.Common.{◌≡◌, ◌≢◌, List, length, sym, ℕ, zero, suc, ◌+◌, ◌-◌, ◌*◌, ◌<◌, ◌≤◌, refl, ap, subst, ◌∙◌, inl, inr, arith}
 use Rattle.std.proofs.Math.Nat.{add-mul, le-div_iff_mul-le, mul-le-mul_right, mul-suc, suc-mul}
-use Rattle.aig_base.proofs.Words.{cases_lt}
-use Rattle.aig_circuit.specs.declared.edge.AigEdge.{AigEdge}
-use Rattle.aig_circuit.specs.declared.node.AigLatch.{AigLatch}
-use Rattle.aig_circuit.specs.Circuit.{Circuit}
-use Rattle.aig_unroll.specs.Places.{unrolled_size}
-use Rattle.aig_runs.specs.declared.window.Window.{Window}
-use Rattle.aig_runs.specs.declared.window.Window.TheVariants.{Plain, Distinct}
-use Rattle.aig_runs.specs.WindowClauses.{count_pairs, distinct_clauses, pairwise_clauses}
-use Rattle.aig_answers.specs.Answers.{window_size}
 
 pairs_twice : (n : ℕ) → 2 * count_pairs n + n ≡ n * n
 pairs_twice zero = refl

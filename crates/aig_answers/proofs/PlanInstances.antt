@@ -1,11 +1,7 @@
 -- The plans of commands are enough: `safe .. to`, `safe .. each`, and a certificate's.
-use Rattle.aig_base.proofs.Words.{◌≡◌, ℕ, ◌+◌, ◌++◌, Bool, List, [], ◌∷◌, Some, length, inl, inr, refl, ap, subst, ◌∙◌, arith, range_with_len, get_or, get_or-append_seam, get_or_append_left, length-append, length-map, slice_get-get_or}
+use Rattle.aig_answers.proofs.Words.{◌≡◌, ℕ, ◌+◌, ◌++◌, Bool, List, [], ◌∷◌, Some, length, inl, inr, refl, ap, subst, ◌∙◌, arith, range_with_len, get_or, get_or-append_seam, get_or_append_left, length-append, length-map, slice_get-get_or, Window, Plain, Covers, asked_with, plan_certified, plan_each, plan_to, step_questions, Question}
 use Rattle.std.proofs.lemmas.List.FromFn.{get_or-map-range_with_len, length-range_with_len}
-use Rattle.aig_runs.specs.declared.window.Window.{Window}
-use Rattle.aig_runs.specs.declared.window.Window.TheVariants.{Plain}
-use Rattle.aig_answers.specs.Plans.{Covers, asked_with, plan_certified, plan_each, plan_to, step_questions}
 use Rattle.aig_answers.specs.declared.plans.asking.Ask.TheVariants as asks
-use Rattle.aig_answers.specs.declared.plans.asking.Question.{Question}
 
 module _ (k : ℕ) (form : Window) (base step : Bool) where
   pub to_covers : Covers (plan_to k form base step)

@@ -1,10 +1,6 @@
 -- The room for a plan: the first question that passes the limit.
-use Rattle.aig_base.proofs.Words.{◌≡◌, ◌<◌, ℕ, Bool, true, false, All, List, Option, Some, None, Ok, arith, ap, cond, get_or, le-ltb, length, lt-ltb, ltb-false, nat_lt, refl, ◌∙◌}
+use Rattle.aig_answers.proofs.Words.{◌≡◌, ◌<◌, ℕ, Bool, true, false, All, List, Option, Some, None, Ok, arith, ap, cond, get_or, le-ltb, length, lt-ltb, ltb-false, nat_lt, refl, ◌∙◌, position, position_or_len, Circuit, HasRoom, room_by, room_of, size_of, Question}
 use Rattle.std.proofs.lemmas.List.Sums.{fails_before_first, position_or_len_is}
-use Rattle.std.specs.List.{position, position_or_len}
-use Rattle.aig_circuit.specs.Circuit.{Circuit}
-use Rattle.aig_answers.specs.Plans.{HasRoom, room_by, room_of, size_of}
-use Rattle.aig_answers.specs.declared.plans.asking.Question.{Question}
 
 module _ {X : Type 0} (p : X → Bool) (xs : List X) where
   abbrev at_first : ℕ → Bool → Option ℕ

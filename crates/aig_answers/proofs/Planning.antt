@@ -1,30 +1,14 @@
 -- Questions of a circuit: there is one list of clauses of each, and it holds where these are
 -- refuted; plans that are enough; and what is told of a question in the words of each kind.
-use Rattle.aig_base.proofs.Words.{◌≡◌, ◌≢◌, ◌↔◌, ◌++◌, ℕ, ◌<◌, ◌≤◌, Bool, Option, Some, None, List, length, Result, Ok, Err, inl, inr, refl, sym, ap, ap₂, subst, ◌∙◌, arith, below_more, set, ◌+◌, All, IsErrOf, get_or_from_slice_get, slice_get, slice_get_within}
-use Rattle.aig_base.specs.Formula.{IsSatisfiable, clauses_in}
-use Rattle.aig_base.specs.declared.logic.literal.Lit.{Lit}
+use Rattle.aig_answers.proofs.Words.{◌≡◌, ◌≢◌, ◌↔◌, ◌++◌, ℕ, ◌<◌, ◌≤◌, Bool, Option, Some, None, List, length, Result, Ok, Err, inl, inr, refl, sym, ap, ap₂, subst, ◌∙◌, arith, below_more, set, ◌+◌, All, IsErrOf, get_or_from_slice_get, slice_get, slice_get_within, IsSatisfiable, clauses_in, Lit, Memory, Circuit, IsCircuit, HasClauses, AsksOfCircuit, IsKInductive, IsSafeTo, query_clauses, IsCircuitSafeAt, IsSafeAt, AsksWindow, Window, IsCircuitOf, AsksOfBads, IsSettled, AnswersAt, AreRefuted, AreTaken, AreUnread, Covers, HasNone, Includes, IsTooLarge, Makes, Tells, BoundedClauses, Why, Question, WindowClauses}
 use Rattle.aig_bounded.specs.declared.error.BoundedError.{BoundedError}
-use Rattle.aig_bounded.specs.declared.error.BoundedError.TheVariants.{Memory, TooLarge}
-use Rattle.aig_circuit.specs.Circuit.{Circuit, IsCircuit}
-use Rattle.aig_cnf.specs.Cnf.{HasClauses}
+use Rattle.aig_bounded.specs.declared.error.BoundedError.TheVariants.{TooLarge}
 use Rattle.aig_format.specs.Circuit.{circuit_of}
 use Rattle.aig_format.specs.File.{File}
 use Rattle.aig_format.specs.Fits.{Fits}
-use Rattle.aig_runs.specs.CircuitQueries.{AsksOfCircuit}
-use Rattle.aig_runs.specs.Induction.{IsKInductive}
-use Rattle.aig_runs.specs.Queries.{IsSafeTo, query_clauses}
-use Rattle.aig_runs.specs.Safety.{IsCircuitSafeAt, IsSafeAt}
-use Rattle.aig_runs.specs.WindowClauses.{AsksWindow}
-use Rattle.aig_runs.specs.declared.window.Window.{Window}
-use Rattle.aig_answers.specs.Answers.{IsCircuitOf}
-use Rattle.aig_answers.specs.Asking.{AsksOfBads, IsSettled}
-use Rattle.aig_answers.specs.Plans.{AnswersAt, AreRefuted, AreTaken, AreUnread, Covers, HasNone, Holds, Includes, IsTooLarge, Makes, Tells}
-use Rattle.aig_answers.specs.declared.bounded_checks.clauses.BoundedClauses.{BoundedClauses}
-use Rattle.aig_answers.specs.declared.plans.errors.Why.{Why}
+use Rattle.aig_answers.specs.Plans.{Holds}
 use Rattle.aig_answers.specs.declared.plans.asking.Ask.{Ask}
 use Rattle.aig_answers.specs.declared.plans.asking.Ask.TheVariants as asks
-use Rattle.aig_answers.specs.declared.plans.asking.Question.{Question}
-use Rattle.aig_answers.specs.declared.windows.WindowClauses.{WindowClauses}
 use Rattle.aig_answers.proofs.Alike.{AreOne, WindowsAreOne}
 use Rattle.aig_answers.proofs.NamelessWindows.{asks_of_file}
 use Rattle.aig_answers.proofs.Single.{settled_back}

@@ -1,17 +1,9 @@
 -- Wrong results, of which the definitions are false.
 use Rattle.std.proofs.Common.{◌≡◌, ◌≢◌, ◌≤◌, ◌^◌, ℕ, Bool, false, Option, Some, Ok, Err, IfOk, List, [], length, slice_get, sym, ap, subst, ◌∙◌, arith}
-use Rattle.aig_base.proofs.Words.{Contains, Contains-get_or, get_or_from_slice_get, slice_get_within}
-use Rattle.aig_base.specs.declared.logic.three.Lbool.{Lbool}
+use Rattle.aig_answers.proofs.Words.{Contains, Contains-get_or, get_or_from_slice_get, slice_get_within, Lbool, NoBad, solution_in, Place, BoundedClauses, BoundedAnswerError, Named, AreSolution, AsksBounded, IsAskedWithin, IsSettled, RefusesAnswer, IsNamed, leaf_of}
 use Rattle.aig_circuit.proofs.Words.{Circuit, lists_circuit}
 use Rattle.aig_format.specs.File.{File}
-use Rattle.aig_witness.specs.declared.solutions.error.SolutionError.TheVariants.{NoBad}
-use Rattle.aig_witness.specs.SolverAnswers.{solution_in}
-use Rattle.aig_bounded.specs.declared.place.Place.{Place}
-use Rattle.aig_answers.specs.declared.bounded_checks.clauses.BoundedClauses.{BoundedClauses}
-use Rattle.aig_answers.specs.declared.bounded_checks.error.BoundedAnswerError.{BoundedAnswerError}
-use Rattle.aig_answers.specs.declared.bounded_checks.naming.Named.{Named}
-use Rattle.aig_answers.specs.Asking.{AreSolution, AsksBounded, IsAskedWithin, IsSettled, RefusesAnswer, TellsOfProof}
-use Rattle.aig_answers.specs.Naming.{IsNamed, leaf_of}
+use Rattle.aig_answers.specs.Asking.{TellsOfProof}
 
 -- a file without bad literals, of which nothing is asked
 no_bads : (limit : ℕ) (bytes : List ℕ) (f : File) → f.properties.bads ≡ []

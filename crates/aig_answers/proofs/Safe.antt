@@ -1,24 +1,9 @@
 -- What refuted clauses of a question say of a circuit, and of a file's machine.
-use Rattle.aig_base.proofs.Words.{◌≡◌, ◌≤◌, ◌↔◌, ◌++◌, ◌∷◌, [], ◌||◌, ℕ, Bool, true, false, IsTrue, List, suc, refl, sym, ap, subst, ◌∙◌, arith, false≢true, All-cons, All-nil, list_all-append}
-use Rattle.std.specs.Prelude.{◌&&◌, All}
-use Rattle.aig_base.specs.declared.logic.literal.Lit.{Lit}
-use Rattle.aig_base.specs.Clauses.{Satisfies, are_true, is_true_clause, literal_value}
-use Rattle.aig_base.specs.Formula.{IsSatisfiable, clauses_in}
-use Rattle.aig_circuit.specs.declared.edge.AigEdge.{AigEdge}
-use Rattle.aig_circuit.proofs.Words.{Circuit, IsCircuit, Properties, no_properties, edge_to, lit_of, edge_value, node_value, lists_circuit}
-use Rattle.aig_circuit.proofs.Trees.{node_value-false}
-use Rattle.aig_cnf.specs.Cnf.{FixesRoots, IsFixed, edge_in}
-use Rattle.aig_format.proofs.Words.{circuit_of, File, Fits}
-use Rattle.aig_format.proofs.Circuits.{IsCircuit-of_file}
-use Rattle.aig_runs.specs.Queries.{IsSafeTo}
-use Rattle.aig_runs.specs.Safety.{IsCircuitSafeAt}
-use Rattle.aig_runs.proofs.SafeSteps.{safe_is}
-use Rattle.aig_runs.proofs.Witnesses.{witness_back, witness_forth}
-use Rattle.aig_format_laws.specs.Nodes.{values_over}
+use Rattle.aig_answers.proofs.Words.{◌≡◌, ◌≤◌, ◌↔◌, ◌++◌, ◌∷◌, [], ◌||◌, ℕ, Bool, true, false, IsTrue, List, suc, refl, sym, ap, subst, ◌∙◌, arith, false≢true, All-cons, All-nil, list_all-append, ◌&&◌, Lit, Satisfies, are_true, is_true_clause, IsSatisfiable, clauses_in, AigEdge, Properties, no_properties, edge_to, lit_of, edge_value, node_value, node_value-false, FixesRoots, IsFixed, edge_in, circuit_of, File, Fits, IsCircuit-of_file, IsSafeTo, IsCircuitSafeAt, safe_is, witness_back, witness_forth, values_over, BoundedClauses, AsksBounded, AsksOfBads, HasCircuitWitness}
+use Rattle.std.specs.Prelude.{All}
+use Rattle.aig_base.specs.Clauses.{literal_value}
+use Rattle.aig_circuit.proofs.Words.{Circuit, IsCircuit, lists_circuit}
 use Rattle.aig_bounded.proofs.Witnesses.{question_asks}
-use Rattle.aig_answers.specs.declared.bounded_checks.clauses.BoundedClauses.{BoundedClauses}
-use Rattle.aig_answers.specs.Asking.{AsksBounded, AsksOfBads}
-use Rattle.aig_runs.specs.CircuitQueries.{HasCircuitWitness}
 
 and_first : (a b : Bool) → (a && b) ≡ true → a ≡ true
 and_first true b h = refl

@@ -1,25 +1,11 @@
 -- The run that values say: its start, and the values that are put into it.
-use Rattle.aig_base.proofs.Words.{◌≡◌, ◌≢◌, ℕ, zero, suc, ◌+◌, ◌<◌, ◌≤◌, ◌⊎◌, eqb, Bool, true, false, Option, Some, None, List, [], ◌∷◌, ◌++◌, length, map, get_or, set, inl, inr, refl, sym, ap, ap₂, subst, ◌∙◌, arith, AllByRecursion, AllZip, false≢true, All-from_recursion, All-map, All-push, All-set, Contains-get_or, recursion_from_All, get_or_from_slice_get, same_Some, slice_get, slice_get-get_or, slice_get_within, AllZip-long, IsTrue}
-use Rattle.std.specs.Prelude.{All, AllPairs, IfSome, Vec, replicate, slice_index}
-use Rattle.std.specs.declared.alloc.Global.{Global}
+use Rattle.aig_answers.proofs.Words.{◌≡◌, ◌≢◌, ℕ, zero, suc, ◌+◌, ◌<◌, ◌≤◌, ◌⊎◌, eqb, Bool, true, false, Option, Some, None, List, [], ◌∷◌, ◌++◌, length, map, get_or, set, inl, inr, refl, sym, ap, ap₂, subst, ◌∙◌, arith, AllByRecursion, AllZip, false≢true, All-from_recursion, All-map, All-push, All-set, Contains-get_or, recursion_from_All, get_or_from_slice_get, same_Some, slice_get, slice_get-get_or, slice_get_within, AllZip-long, IsTrue, AllPairs, IfSome, Vec, replicate, Global, eqb_tells, get_or-map, get_or-set_other, get_or-set_same, get_or_default, length-replicate, map-set, Lbool, FALSE, TRUE, NONE, AigEdge, AigLatch, edge_to, HasConstantInit, zip_at, AreStarts, HasStart, known_of, Witness, rows_of, said_by, Place, IsPlace, IsQuestion, Named, assigned, IsNamed, leaf_of, Begins, HasPlace, IsBlank, IsOpenAt, SaysOnly, put, start_value, value_at, value_of_init, value_said, with_value}
+use Rattle.std.specs.Prelude.{All, slice_index}
 use borrow.Author.Count.{below_more}
-use Rattle.std.proofs.lemmas.Bool.Decides.{eqb_tells}
-use Rattle.std.proofs.lemmas.List.{get_or-map, get_or-set_other, get_or-set_same, get_or_default, length-append, length-map, length-replicate, length-set, map-set}
-use Rattle.aig_base.specs.declared.logic.three.Lbool.{Lbool}
-use Rattle.aig_base.specs.declared.logic.three.Lbool.TheVariants.{FALSE, TRUE, NONE}
-use Rattle.aig_circuit.specs.declared.edge.AigEdge.{AigEdge}
-use Rattle.aig_circuit.specs.declared.node.AigLatch.{AigLatch}
-use Rattle.aig_circuit.proofs.Words.{Circuit, latch_leaves, edge_to, HasConstantInit}
-use Rattle.aig_unroll.proofs.Lists.{zip_at}
-use Rattle.aig_witness.specs.Shown.{AreStarts, HasStart, known_of}
+use Rattle.std.proofs.lemmas.List.{length-append, length-map, length-set}
+use Rattle.aig_circuit.proofs.Words.{Circuit, latch_leaves}
 use Rattle.aig_witness.specs.declared.witness.Witness as lists
-use Rattle.aig_witness.specs.Witness.{Witness, rows_of, said_by}
-use Rattle.aig_bounded.specs.declared.place.Place.{Place}
-use Rattle.aig_bounded.specs.Question.{IsPlace, IsQuestion}
-use Rattle.aig_answers.specs.declared.bounded_checks.naming.Named.{Named}
-use Rattle.aig_answers.specs.Asking.{assigned}
-use Rattle.aig_answers.specs.Naming.{IsNamed, leaf_of}
-use Rattle.aig_answers.specs.Solving.{Begins, HasPlace, HasRoom, IsBlank, IsOpenAt, SaysOnly, put, start_value, value_at, value_of_init, value_said, with_value}
+use Rattle.aig_answers.specs.Solving.{HasRoom}
 
 -- ---- the start
 

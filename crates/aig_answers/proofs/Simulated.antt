@@ -1,17 +1,9 @@
 -- The simulation of a run, step by step, and its first bad state.
-use Rattle.aig_base.proofs.Words.{◌≡◌, ℕ, zero, suc, ◌+◌, ◌-◌, ◌<◌, ◌≤◌, ◌⊎◌, leb, true, false, None, List, [], ◌∷◌, ◌++◌, length, get_or, take, inl, inr, refl, sym, ap, ap₂, subst, ◌∙◌, arith, get_or-map, length-map, length-take-le, take_more, All-take}
-use Rattle.std.specs.Prelude.{All, Vec}
-use Rattle.std.specs.declared.alloc.Global.{Global}
-use Rattle.std.proofs.lemmas.Bool.Decides.{leb_tells}
-use Rattle.aig_base.specs.declared.logic.three.Lbool.{Lbool}
-use Rattle.aig_base.specs.declared.logic.three.Lbool.TheVariants.{TRUE}
-use Rattle.aig_circuit.specs.declared.edge.AigEdge.{AigEdge}
-use Rattle.aig_circuit.specs.declared.node.AigNode.{AigNode}
-use Rattle.aig_circuit.specs.Circuit.{Circuit, IsInRange}
-use Rattle.aig_ternary.specs.Ternary.{HasValue, Simulation, given_values, simulation_of, stepped, stepped_all, three_node_value, value_in}
-use Rattle.aig_witness.specs.Shown.{AreTrueIn, named_bad}
-use Rattle.aig_witness.specs.Witness.{Witness, rows_of}
-use Rattle.aig_answers.specs.Solving.{Begins, HasNoTrueIn, IsConstrained, IsReached, IsTrueIn, WitnessWithin, after}
+use Rattle.aig_answers.proofs.Words.{◌≡◌, ℕ, zero, suc, ◌+◌, ◌-◌, ◌<◌, ◌≤◌, ◌⊎◌, leb, true, false, None, List, [], ◌∷◌, ◌++◌, length, get_or, take, inl, inr, refl, sym, ap, ap₂, subst, ◌∙◌, arith, length-map, length-take-le, All-take, Vec, Global, leb_tells, Lbool, TRUE, AigEdge, AigNode, Circuit, HasValue, Simulation, given_values, simulation_of, stepped, stepped_all, value_in, AreTrueIn, named_bad, Witness, rows_of, Begins, HasNoTrueIn, IsConstrained, IsReached, IsTrueIn, WitnessWithin, after}
+use Rattle.aig_base.proofs.Words.{get_or-map, take_more}
+use Rattle.std.specs.Prelude.{All}
+use Rattle.aig_circuit.specs.Circuit.{IsInRange}
+use Rattle.aig_ternary.specs.Ternary.{three_node_value}
 
 stepped_all-append : (s : Simulation) (xs ys : List (List Lbool))
     → stepped_all s (xs ++ ys) ≡ stepped_all (stepped_all s xs) ys

@@ -1,23 +1,12 @@
 -- A circuit's question has one list of clauses.
-use Rattle.aig_base.proofs.Words.{◌≡◌, ◌++◌, ◌∷◌, [], ℕ, Bool, false, Option, IfSome, List, length, Result, Ok, Err, sym, ap, ap₂, subst, ◌∙◌, All}
-use Rattle.aig_base.specs.Formula.{clauses_in}
-use Rattle.aig_base.specs.declared.logic.literal.Lit.{Lit}
-use Rattle.aig_base.specs.Clauses.{are_true}
-use Rattle.aig_circuit.proofs.Words.{Circuit, edge_to, lit_of, lists_circuit}
-use Rattle.aig_cnf.specs.Cnf.{HasClauses}
+use Rattle.aig_answers.proofs.Words.{◌≡◌, ◌++◌, ◌∷◌, [], ℕ, Bool, false, Option, List, length, Result, Ok, Err, sym, ap, ap₂, subst, ◌∙◌, All, clauses_in, Lit, are_true, edge_to, lit_of, HasClauses, Shows, SolutionError, GivesSolution, solution_in, Witness, Lbool, BoundedClauses, BoundedAnswerError, SaysRun, SaysValues, AreSaid, AsksOfBads, IsSettled, RefusesAnswer, ShowsProof, assigned}
+use Rattle.aig_base.proofs.Words.{IfSome}
+use Rattle.aig_circuit.proofs.Words.{Circuit, lists_circuit}
 use Rattle.aig_cnf.proofs.OneList.{one_list}
-use Rattle.aig_refutation.specs.Checking.{Shows}
-use Rattle.aig_witness.specs.declared.solutions.error.SolutionError.{SolutionError}
 use Rattle.aig_witness.specs.declared.solutions.error.SolutionError.TheVariants as solutions
-use Rattle.aig_witness.specs.SolverAnswers.{GivesSolution, solution_in}
-use Rattle.aig_witness.specs.Witness.{Witness}
-use Rattle.aig_base.specs.declared.logic.three.Lbool.{Lbool}
 use Rattle.aig_bounded.proofs.Single.{question_same}
-use Rattle.aig_answers.specs.declared.bounded_checks.clauses.BoundedClauses.{BoundedClauses}
-use Rattle.aig_answers.specs.declared.bounded_checks.error.BoundedAnswerError.{BoundedAnswerError}
 use Rattle.aig_answers.specs.declared.bounded_checks.error.BoundedAnswerError.TheVariants as errors
-use Rattle.aig_answers.specs.Said.{SaysRun, SaysValues}
-use Rattle.aig_answers.specs.Asking.{AreSaid, AsksOfBads, IsSettled, RefusesAnswer, ShowsProof, TellsOfProof, assigned}
+use Rattle.aig_answers.specs.Asking.{TellsOfProof}
 
 module _ (c : Circuit) (k : ℕ) (optimize : Bool) (one other : BoundedClauses)
     (is : AsksOfBads c k optimize one) (are : AsksOfBads c k optimize other) where

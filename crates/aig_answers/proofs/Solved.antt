@@ -1,27 +1,11 @@
 -- A solution of a question's clauses says a run that reaches a bad state.
-use Rattle.aig_base.proofs.Words.{◌≡◌, ◌≢◌, ℕ, zero, suc, ◌+◌, ◌<◌, ◌≤◌, Bool, true, false, Option, Some, List, [], ◌∷◌, ◌++◌, length, map, take, get_or, refl, sym, ap, ap₂, subst, ◌∙◌, arith, All-from_recursion, AllByRecursion, AllZip, eq-eqb, false≢true, ne_eqb, Any-from_list_any, get_or_from_slice_get, same_Some, slice_get-get_or, slice_get_within, AllZip-long}
-use Rattle.std.specs.Prelude.{◌^◌, AllPairs, IfSome, IsTrue, MatchOption, None, if◌then◌else◌, slice_get, slice_index}
-use Rattle.std.proofs.lemmas.List.{get_or_append_left, get_or-append-add, get_or-map, get_or_default, length-append, length-map}
-use Rattle.aig_base.specs.declared.logic.three.Lbool.{Lbool}
-use Rattle.aig_base.specs.declared.logic.three.Lbool.TheVariants.{FALSE, TRUE, NONE}
+use Rattle.aig_answers.proofs.Words.{◌≡◌, ◌≢◌, ℕ, zero, suc, ◌+◌, ◌<◌, ◌≤◌, Bool, true, false, Option, Some, List, [], ◌∷◌, ◌++◌, length, map, take, get_or, refl, sym, ap, ap₂, subst, ◌∙◌, arith, All-from_recursion, AllByRecursion, AllZip, eq-eqb, false≢true, ne_eqb, Any-from_list_any, get_or_from_slice_get, same_Some, slice_get-get_or, slice_get_within, AllZip-long, AllPairs, IfSome, MatchOption, get_or-append-add, get_or-map, get_or_default, Lbool, FALSE, TRUE, NONE, AigEdge, AigLatch, IsInRange, edge_to, IsRun, edge_value, AreLeaves-of_circuit, IsFilling, value_for, value_in, zip_at, zip_from, known_of, Witness, Place, IsQuestion, Reaches, ReadsPlaces, Named, assigned, is_true, IsNamed, leaf_of, IsSaid, IsSaidStart, SaysRun, Begins, IsConstrained, IsReached, SaysAll, SaysOnly, after, value_at}
+use Rattle.std.specs.Prelude.{◌^◌, IsTrue, None, if◌then◌else◌, slice_get, slice_index}
+use Rattle.std.proofs.lemmas.List.{get_or_append_left, length-append, length-map}
 use Rattle.aig_base.specs.Three.{Agrees}
-use Rattle.aig_circuit.specs.declared.edge.AigEdge.{AigEdge}
-use Rattle.aig_circuit.specs.declared.node.AigLatch.{AigLatch}
-use Rattle.aig_circuit.proofs.Words.{Circuit, IsCircuit, IsClosed, IsInRange, latch_leaves, edge_to, IsRun, edge_value}
-use Rattle.aig_circuit.proofs.Circuits.{AreLeaves-of_circuit}
-use Rattle.aig_ternary.specs.Ternary.{IsFilling, value_for, value_in}
-use Rattle.aig_unroll.proofs.Lists.{zip_at, zip_from}
-use Rattle.aig_witness.specs.Shown.{known_of}
-use Rattle.aig_witness.specs.Witness.{Witness}
+use Rattle.aig_circuit.proofs.Words.{Circuit, IsCircuit, IsClosed, latch_leaves}
 use Rattle.aig_witness.proofs.Given.{value_known}
 use Rattle.aig_witness.proofs.Started.{starts_hold}
-use Rattle.aig_bounded.specs.declared.place.Place.{Place}
-use Rattle.aig_bounded.specs.Question.{IsQuestion, Reaches, ReadsPlaces}
-use Rattle.aig_answers.specs.declared.bounded_checks.naming.Named.{Named}
-use Rattle.aig_answers.specs.Asking.{assigned, is_true}
-use Rattle.aig_answers.specs.Naming.{IsNamed, leaf_of}
-use Rattle.aig_answers.specs.Said.{IsSaid, IsSaidStart, SaysRun}
-use Rattle.aig_answers.specs.Solving.{Begins, IsConstrained, IsReached, SaysAll, SaysOnly, after, value_at}
 use Rattle.aig_answers.proofs.Saying.{IsUsable, usable_at}
 
 -- ---- values

@@ -1,19 +1,11 @@
 -- What is told of proofs of single steps.
-use Rattle.aig_base.proofs.Words.{◌≡◌, ℕ, zero, suc, ◌<◌, Bool, Option, Some, List, [], ◌∷◌, length, refl, sym, ap, ap₂, subst, ◌∙◌, arith, set, slice_get}
+use Rattle.aig_answers.proofs.Words.{◌≡◌, ℕ, zero, suc, ◌<◌, Bool, Option, Some, List, [], ◌∷◌, length, refl, sym, ap, ap₂, subst, ◌∙◌, arith, set, slice_get, Lit, TellsOfCircuit, TellsOfProof, TellsOfStep, CircuitQuery, AnswerError, Circuit, IsQuery, Encodes, query_clauses}
 use Rattle.std.specs.Prelude.{Result}
-use Rattle.aig_base.specs.declared.logic.literal.Lit.{Lit}
 use Rattle.aig_answers.proofs.Answering.{AsksFiles, EncodesFiles}
-use Rattle.aig_answers.specs.Answers.{TellsOfCircuit, TellsOfProof, TellsOfStep}
-use Rattle.aig_answers.specs.declared.circuits.CircuitQuery.{CircuitQuery}
-use Rattle.aig_answers.specs.declared.error.AnswerError.{AnswerError}
-use Rattle.aig_circuit.specs.Circuit.{Circuit}
-use Rattle.aig_encode.specs.Encoding.{IsQuery}
 use Rattle.aig_encode.specs.declared.query_clauses.Query.{Query}
 use Rattle.aig_format.specs.Circuit.{circuit_of}
 use Rattle.aig_format.specs.File.{File}
 use Rattle.aig_format.specs.Fits.{Fits}
-use Rattle.aig_runs.specs.Encodes.{Encodes}
-use Rattle.aig_runs.specs.Queries.{query_clauses}
 
 -- ---- lists
 

@@ -1,18 +1,8 @@
 -- What is told of a joint circuit, from what was said of it and of a proof.
-use Rattle.aig_base.proofs.Words.{◌≡◌, ℕ, ◌≤◌, ◌==◌, nat_lt, if◌then◌else◌, Bool, true, false, List, length, Option, Result, Ok, Err, refl, sym, ap, subst, arith, IfErr, le-ltb, ltb-false}
+use Rattle.aig_answers.proofs.Words.{◌≡◌, ℕ, ◌≤◌, ◌==◌, nat_lt, if◌then◌else◌, Bool, true, false, List, length, Option, Result, Ok, Err, refl, sym, ap, subst, arith, IfErr, le-ltb, ltb-false, IsOfInduction, IsOfQuery, IsOfStep, IsOfWindow, IsSaidBy, TellsOfCircuit, TellsOfCircuitWindow, verdict_of, AnswerError, Circuit, Accepted, NoBads, TooLarge, TooMany, Verdict, verdict_by, UnrolledCircuit, Unrolls, unrolled_size, Plain, circuit_verdict, TellsOfQuery, TellsOfTwo, joint_verdict, IsOfProof}
 use Rattle.aig_answers.proofs.Verdicts.{query_not_taken}
-use Rattle.aig_answers.specs.Answers.{IsOfInduction, IsOfQuery, IsOfStep, IsOfWindow, IsSaidBy, TellsOfCircuit, TellsOfCircuitWindow, verdict_of}
-use Rattle.aig_answers.specs.declared.error.AnswerError.{AnswerError}
 use Rattle.aig_answers.specs.declared.error.AnswerError.TheVariants as answers
-use Rattle.aig_circuit.specs.Circuit.{Circuit}
 use Rattle.aig_encode.specs.declared.error.EncodeError.TheVariants as encode
-use Rattle.aig_reader.specs.Verdicts.{Accepted, NoBads, TooLarge, TooMany, Verdict, verdict_by}
-use Rattle.aig_runs.specs.Unrolled.{UnrolledCircuit, Unrolls}
-use Rattle.aig_unroll.specs.Places.{unrolled_size}
-use Rattle.aig_runs.specs.declared.window.Window.TheVariants.{Plain}
-use Rattle.aig_answers.specs.CircuitVerdicts.{circuit_verdict}
-use Rattle.aig_answers.specs.Certificates.{TellsOfQuery, TellsOfTwo, joint_verdict}
-use Rattle.aig_answers.specs.PairParts.{IsOfProof}
 
 -- the verdict on a joint circuit, by tests
 abbrev joint_by : Bool → Bool → Bool → Verdict

@@ -1,29 +1,14 @@
 -- What is told of a file that was read, from what was said of it and of proofs.
-use Rattle.aig_base.proofs.Words.{◌≡◌, ℕ, ◌+◌, ◌<◌, ◌≤◌, Bool, true, false, Option, List, length, Result, Ok, Err, refl, sym, ap, subst, ◌==◌, nat_lt, if◌then◌else◌, IfErr, IfOk, IsErrOf, on_ok_weaker}
+use Rattle.aig_answers.proofs.Words.{◌≡◌, ℕ, ◌+◌, ◌<◌, ◌≤◌, Bool, true, false, Option, List, length, Result, Ok, Err, refl, sym, ap, subst, ◌==◌, nat_lt, if◌then◌else◌, IfErr, IfOk, IsErrOf, on_ok_weaker, IsAsked, IsCircuitOf, IsSaidBy, circuit_window_verdict, window_size, without_names, question_size, Circuit, IsCircuit, IsClosed, lists_circuit, CircuitLists, IsCircuit-of_file, IsClosed-of_file, plain_starts, Accepted, Crowded, IsOfFile, NoBads, Short, TooLarge, Verdict, verdict_by, AreListsOf, IsReadAs, IsCircuitWitness, IsSafeTo, IsCircuitSafeAt, Window, unrolled_size, ShowsCircuit}
 use Rattle.std.specs.Prelude.{All, OnOk}
 use Rattle.aig_answers.proofs.Verdicts.{read_unrolled, bads_of}
-use Rattle.aig_answers.specs.Answers.{IsAsked, IsCircuitOf, IsSaidBy, circuit_window_verdict, window_size, without_names}
 use Rattle.aig_answers.specs.declared.bounded_checks.error.BoundedAnswerError.TheVariants as bounded
-use Rattle.aig_bounded.specs.Question.{question_size}
 use Rattle.aig_bounded.specs.declared.error.BoundedError.TheVariants as questions
-use Rattle.aig_circuit.specs.Circuit.{Circuit, IsCircuit, IsClosed}
 use Rattle.aig_circuit.specs.Edges.{HasConstantInit}
-use Rattle.aig_circuit.specs.View.{lists_circuit}
-use Rattle.aig_circuit.specs.declared.view.CircuitLists.{CircuitLists}
-use Rattle.aig_format.proofs.Circuits.{IsCircuit-of_file}
 use Rattle.aig_format.specs.Circuit.{circuit_of}
 use Rattle.aig_format.specs.File.{File}
 use Rattle.aig_format.specs.Fits.{Accepts, Fits}
-use Rattle.aig_format_laws.proofs.Closed.{IsClosed-of_file}
-use Rattle.aig_format_laws.proofs.Writable.{plain_starts}
-use Rattle.aig_reader.specs.Verdicts.{Accepted, Crowded, IsOfFile, NoBads, Short, TooLarge, Verdict, verdict_by}
-use Rattle.aig_reader.specs.Reading.{AreListsOf, IsReadAs}
-use Rattle.aig_runs.specs.CircuitQueries.{IsCircuitWitness}
-use Rattle.aig_runs.specs.Queries.{IsSafeTo}
-use Rattle.aig_runs.specs.Safety.{IsCircuitSafeAt}
-use Rattle.aig_runs.specs.declared.window.Window.{Window}
-use Rattle.aig_unroll.specs.Places.{unrolled_size}
-use Rattle.aig_answers.specs.Safety.{Shows, ShowsCircuit, TellsOfSize, verdict_of}
+use Rattle.aig_answers.specs.Safety.{Shows, TellsOfSize, verdict_of}
 use Rattle.aig_answers.specs.declared.safety.error.SafetyError.{SafetyError}
 use Rattle.aig_answers.specs.declared.safety.error.SafetyError.TheVariants as errors
 

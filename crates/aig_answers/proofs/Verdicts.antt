@@ -1,24 +1,9 @@
 -- What is said of a circuit, and of the file that it is of.
-use Rattle.aig_base.proofs.Words.{◌≡◌, ◌≢◌, ℕ, ◌+◌, ◌≤◌, Bool, true, false, Option, List, [], length, map, refl, sym, ap, subst, ◌∙◌, ◌==◌, nat_lt, if◌then◌else◌, length-map, eqb-false, ltb-false}
-use Rattle.aig_circuit.specs.Circuit.{Circuit}
-use Rattle.aig_circuit.specs.declared.edge.AigEdge.{AigEdge}
-use Rattle.aig_circuit.specs.declared.node.AigLatch.{AigLatch}
-use Rattle.aig_circuit.specs.declared.node.AigNode.{AigNode}
-use Rattle.aig_format.proofs.Words.{circuit_of, edge_of, File, Accepts}
-use Rattle.aig_reader.specs.declared.error.ReadError.{ReadError}
-use Rattle.aig_reader.specs.Reading.{IsReadAs}
+use Rattle.aig_answers.proofs.Words.{◌≡◌, ◌≢◌, ℕ, ◌+◌, ◌≤◌, Bool, true, false, Option, List, [], length, map, refl, sym, ap, subst, ◌∙◌, ◌==◌, nat_lt, if◌then◌else◌, length-map, eqb-false, ltb-false, Circuit, AigEdge, AigLatch, AigNode, circuit_of, edge_of, File, Accepts, ReadError, IsReadAs, Accepted, Crowded, IsOfFile, IsSaidOf, Judges, NoBads, Short, TooLarge, Verdict, verdict_by, of_no_file, refused_again, said_of_read, IsFileCircuit, unrolled_size, Window, IsOfQuery, IsOfStep, IsSaidBy, asked_verdict, circuit_window_verdict, verdict_of, window_size, window_verdict, asks_verdict, circuit_verdict, AnswerError}
 use Rattle.aig_reader.specs.Verdicts as reading
-use Rattle.aig_reader.specs.Verdicts.{Accepted, Crowded, IsOfFile, IsSaidOf, Judges, NoBads, Short, TooLarge, Verdict, verdict_by}
-use Rattle.aig_reader.proofs.Verdicts.{of_no_file, refused_again, said_of_read}
-use Rattle.aig.specs.Reading.{IsFileCircuit}
-use Rattle.aig_unroll.specs.Places.{unrolled_size}
-use Rattle.aig_runs.specs.declared.window.Window.{Window}
 use Rattle.aig_encode.specs.declared.error.EncodeError.{EncodeError}
 use Rattle.aig_encode.specs.declared.error.EncodeError.TheVariants as encode
 use Rattle.aig_encode.specs.Encoding as encoding
-use Rattle.aig_answers.specs.Answers.{IsOfQuery, IsOfStep, IsSaidBy, asked_verdict, circuit_window_verdict, verdict_of, window_size, window_verdict}
-use Rattle.aig_answers.specs.CircuitVerdicts.{asks_verdict, circuit_verdict}
-use Rattle.aig_answers.specs.declared.error.AnswerError.{AnswerError}
 use Rattle.aig_answers.specs.declared.error.AnswerError.TheVariants as errors
 
 -- ---- by tests

@@ -1,30 +1,12 @@
 -- An assignment that satisfies the clauses of a window is a window with a bad literal at its end.
-use Rattle.aig_base.proofs.Words.{◌≡◌, ℕ, zero, suc, ◌+◌, ◌*◌, ◌/◌, ◌<◌, ◌≤◌, Bool, true, false, not, List, [], ◌∷◌, ◌++◌, length, map, take, drop, IsTrue, Some, refl, sym, ap, subst, ◌∙◌, arith, AllByRecursion, AllZip, list_any, mul-le-mul_right, and_parts, false≢true, length-map, All-cons, All-nil, list_all-append, same_Some, slice_get_within, map-map}
-use Rattle.std.specs.Prelude.{replicate, slice_get}
-use Rattle.aig_base.specs.declared.logic.literal.Lit.{Lit}
-use Rattle.aig_base.specs.Clauses.{Satisfies, are_true, is_true_clause}
-use Rattle.aig_base.specs.Formula.{IsSatisfiable, clauses_in}
-use Rattle.aig_circuit.specs.declared.edge.AigEdge.{AigEdge}
-use Rattle.aig_circuit.specs.declared.node.AigLatch.{AigLatch}
-use Rattle.aig_circuit.proofs.Words.{Circuit, edge_to, inverse, lit_of, edge_value}
-use Rattle.aig_circuit.proofs.Lists.{AllZip-map}
-use Rattle.aig_cnf.specs.Cnf.{FixesRoots, edge_in}
-use Rattle.aig_cnf.proofs.Forms.{edge_in-inverse}
-use Rattle.aig_format.proofs.Words.{circuit_of, edge_of, latch_of, File, LatchLine, Fits, IsMachineRun, value_of_literal, node_of_variable}
-use Rattle.aig_format.proofs.Entries.{rec_append}
-use Rattle.aig_format_laws.specs.Nodes.{values_over}
+use Rattle.aig_answers.proofs.Words.{◌≡◌, ℕ, zero, suc, ◌+◌, ◌*◌, ◌<◌, ◌≤◌, Bool, true, false, not, List, [], ◌∷◌, ◌++◌, length, map, take, drop, IsTrue, Some, refl, sym, ap, subst, ◌∙◌, arith, AllByRecursion, AllZip, list_any, mul-le-mul_right, and_parts, false≢true, length-map, All-cons, All-nil, list_all-append, same_Some, slice_get_within, map-map, replicate, Lit, Satisfies, are_true, is_true_clause, IsSatisfiable, clauses_in, AigEdge, AigLatch, edge_to, lit_of, edge_value, AllZip-map, FixesRoots, edge_in, edge_in-inverse, circuit_of, edge_of, latch_of, File, LatchLine, Fits, IsMachineRun, value_of_literal, node_of_variable, rec_append, values_over, HasValuesAtSteps, UnrollsTo, HasDistinctStates, IsWindow, Regards, last_bads, unit_clauses, IsGood, AsksWindow, count_free, distinct_clauses, first_bads, induction_clauses, state_at, state_edges, states_clauses, window_clauses, Window, Distinct, Plain, Holds, clause_says, stand_all, stand_any, units_say, all_is, get-drop, next_row, rec_from_get}
+use Rattle.aig_base.proofs.Words.{◌/◌}
+use Rattle.std.specs.Prelude.{slice_get}
+use Rattle.aig_circuit.proofs.Words.{Circuit, inverse}
 use Rattle.aig_format_laws.proofs.Joining.{back_run, edge_is}
-use Rattle.aig_unroll.specs.Unroll.{HasValuesAtSteps, UnrollsTo}
 use Rattle.aig_runs.specs.Circuits.{IsOneCircuitRun}
-use Rattle.aig_runs.specs.Induction.{HasDistinctStates, IsWindow, Regards}
-use Rattle.aig_runs.specs.Queries.{last_bads, unit_clauses}
-use Rattle.aig_runs.specs.Safety.{IsConstrained, IsGood}
-use Rattle.aig_runs.specs.WindowClauses.{AsksWindow, count_free, distinct_clauses, first_bads, induction_clauses, state_at, state_edges, states_clauses, window_clauses}
-use Rattle.aig_runs.specs.declared.window.Window.{Window}
-use Rattle.aig_runs.specs.declared.window.Window.TheVariants.{Distinct, Plain}
+use Rattle.aig_runs.specs.Safety.{IsConstrained}
 use Rattle.aig_runs.proofs.CircuitRuns.{assignments_are_runs}
-use Rattle.aig_runs.proofs.Further.{Holds, clause_says, stand_all, stand_any, units_say}
-use Rattle.aig_runs.proofs.Rows.{all_is, get-drop, next_row, rec_from_get}
 use Rattle.aig_runs.proofs.Standing.{AreAlike, stand_alike}
 use Rattle.aig_answers.proofs.Differing.{AreSame, distinct_differ}
 

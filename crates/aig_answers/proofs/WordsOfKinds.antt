@@ -1,28 +1,12 @@
 -- What is told of a question, in the words of its kind.
-use Rattle.aig_base.proofs.Words.{◌≡◌, ◌++◌, ℕ, Bool, IfErr, IfOk, List, Option, Some, None, Ok, OnOk, Err, ap, length, subst, sym}
+use Rattle.aig_answers.proofs.Words.{◌≡◌, ◌++◌, ℕ, Bool, IfErr, IfOk, List, Option, Some, None, Ok, OnOk, Err, ap, length, subst, sym, clauses_in, Circuit, Accepted, Verdict, verdict_by, Shows, Window, Plain, IsSaidBy, TellsOfCircuit, TellsOfCircuitWindow, query_with, AnswersCircuit, ShowsProof, TellsOfQuery, TellsOfTwo, joint_verdict, HasNoWindow, IsOfProof, answer_of, bounded_of, IsHeld, Makes, Tells, asked_with, BoundedClauses, BoundedAnswerError, Why, WindowClauses}
 use Rattle.std.specs.Prelude.{Result}
-use Rattle.aig_base.specs.Formula.{clauses_in}
-use Rattle.aig_circuit.specs.Circuit.{Circuit}
-use Rattle.aig_reader.specs.Verdicts.{Accepted, Verdict, verdict_by}
-use Rattle.aig_refutation.specs.Checking.{Shows}
 use Rattle.aig_refutation.specs.declared.error.RefutationError.{RefutationError}
-use Rattle.aig_runs.specs.declared.window.Window.{Window}
-use Rattle.aig_runs.specs.declared.window.Window.TheVariants.{Plain}
 use Rattle.aig_answers.specs.Answers as answering
-use Rattle.aig_answers.specs.Answers.{IsSaidBy, TellsOfCircuit, TellsOfCircuitWindow, query_with}
 use Rattle.aig_answers.specs.Asking as bounding
-use Rattle.aig_answers.specs.Asking.{AnswersCircuit, ShowsProof}
-use Rattle.aig_answers.specs.Certificates.{TellsOfQuery, TellsOfTwo, joint_verdict}
-use Rattle.aig_answers.specs.PairParts.{HasNoWindow, IsOfProof}
-use Rattle.aig_answers.specs.PlanWords.{answer_of, bounded_of}
-use Rattle.aig_answers.specs.Plans.{IsHeld, Makes, Tells, asked_with}
-use Rattle.aig_answers.specs.declared.bounded_checks.clauses.BoundedClauses.{BoundedClauses}
-use Rattle.aig_answers.specs.declared.bounded_checks.error.BoundedAnswerError.{BoundedAnswerError}
 use Rattle.aig_answers.specs.declared.bounded_checks.error.BoundedAnswerError.TheVariants as bounded
 use Rattle.aig_answers.specs.declared.plans.asking.Ask.TheVariants as asks
-use Rattle.aig_answers.specs.declared.plans.errors.Why.{Why}
 use Rattle.aig_answers.specs.declared.plans.errors.Why.TheVariants as whys
-use Rattle.aig_answers.specs.declared.windows.WindowClauses.{WindowClauses}
 use Rattle.aig_answers.proofs.Alike.{AreOne, WindowsAreOne, query_told, window_told}
 use Rattle.aig_answers.proofs.Single.{told_same}
 use Rattle.aig_answers.proofs.Telling.{checked_query, checked_two}

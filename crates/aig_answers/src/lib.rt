@@ -39,9 +39,7 @@ pub use plans::{
     Ask, PlanError, Question, Refused, Why, check_circuit, check_question, clauses_of,
     command_plans_cover, covering_plans_are_safe, question_clauses_are_one, refuted_asks_hold,
 };
-pub use safety::{
-    SafetyError, check_safe, check_safe_of,
-};
+pub use safety::{SafetyError, check_safe, check_safe_of};
 pub use step::{check_step, read_query, read_unrolled};
 pub use unrolled::unrolled_query;
 pub use windows::{UnrolledWindow, WindowClauses, check_window, check_window_room, read_window};

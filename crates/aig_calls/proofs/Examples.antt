@@ -1,8 +1,6 @@
 -- Statuses of errors, numbers of clauses and what calls leave in the caller's memory, computed; and
 -- wrong ones, of which the definitions are false.
-use Rattle.aig_base.proofs.Words.{◌≡◌, ◌≢◌, ℕ, ◌<◌, ◌^◌, true, false, Some, Ok, Err, Result, List, [], ◌∷◌, codes, slice_index, refl, sym, ap, ◌∙◌, arith, same_Some}
-use Rattle.std.specs.Prelude.{ℤ, pos, negsuc}
-use Rattle.aig_base.specs.Clauses.{lit_to}
+use Rattle.aig_calls.proofs.Words.{◌≡◌, ◌≢◌, ℕ, ◌<◌, ◌^◌, true, false, Some, Ok, Err, Result, List, [], ◌∷◌, codes, slice_index, refl, sym, ap, ◌∙◌, arith, same_Some, ℤ, pos, negsuc, lit_to, Base, Step, ChecksAt, GivesItems, GivesListing, IsGiven, Prints, TellsBad, TellsLasso, form_of, Writer, held, clause_numbers, dimacs_number}
 use Rattle.aig_answers.specs.declared.error.AnswerError.{AnswerError}
 use Rattle.aig_answers.specs.declared.error.AnswerError.TheVariants as answers
 use Rattle.aig_answers.specs.declared.safety.error.SafetyError.TheVariants as safety
@@ -13,15 +11,11 @@ use Rattle.aig_refutation.specs.declared.error.RefutationError.TheVariants as re
 use Rattle.aig_runs.specs.declared.window.Window.TheVariants.{Distinct, Plain}
 use Rattle.aig_simulated.specs.declared.error.ConditionError.TheVariants as conditions
 use Rattle.aig_simulated.specs.declared.error.SimulationError.TheVariants as simulation
-use Rattle.aig_simulation.specs.declared.condition.Condition.TheVariants.{Base, Step}
 use Rattle.aig_witness.specs.declared.fair.file.ClaimError.TheVariants as claims
 use Rattle.aig_witness.specs.declared.fair.file.ShownProperty.TheVariants as properties
 use Rattle.aig_witness.specs.declared.fault.WitnessFault.TheVariants as faults
 use Rattle.aig_witness.specs.declared.file.ShowError.TheVariants as shows
 use Rattle.aig_witness.specs.declared.file.Shown.{Shown}
-use Rattle.aig_calls.specs.Calls.{ChecksAt, GivesItems, GivesListing, IsGiven, Prints, TellsBad, TellsLasso, form_of}
-use Rattle.aig_calls.specs.Memory.{Writer, held}
-use Rattle.aig_calls.specs.Numbers.{clause_numbers, dimacs_number}
 use Rattle.aig_calls.specs.Statuses.{answer_status, claim_status, done, made_status, many_steps, pair_status, read_status, safety_status, show_status, simulation_status, small, status_by}
 
 -- ---- statuses

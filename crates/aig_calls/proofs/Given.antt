@@ -1,16 +1,9 @@
 -- What is done with readers and writers of the caller's memory is done with its bytes.
-use Rattle.std.proofs.Common.{Bor}
-use Rattle.aig_base.proofs.Words.{◌≡◌, ℕ, ◌<◌, ◌≤◌, ◌^◌, Bool, List, [], Option, Some, Result, Ok, Err, Vec, Global, refl, sym, ap, fun_ext, ◌∙◌, arith}
+use Rattle.aig_calls.proofs.Words.{Bor, ◌≡◌, ℕ, ◌<◌, ◌≤◌, ◌^◌, Bool, List, [], Option, Some, Result, Ok, Err, Vec, Global, refl, sym, ap, fun_ext, ◌∙◌, arith, IfOk, Proofs, proof_for, proofs_of, Condition, AtStep, Prints, text_in, On, Reader, Writer, bytes_of}
 use Rattle.aig_format.proofs.Words.{File}
-use Rattle.std.specs.Prelude.{IfOk}
 use Rattle.aig_reader.specs.Reading.{IsReadAs}
 use Rattle.aig_reader.specs.Verdicts.{Accepted, Judges, Short, Verdict}
-use Rattle.aig_simulated.specs.Simulated.{Proofs, proof_for, proofs_of}
-use Rattle.aig_simulation.specs.declared.condition.Condition.{Condition}
 use Rattle.aig_simulation.specs.declared.condition.Condition.TheVariants as conditions
-use Rattle.aig_calls.specs.Calls.{AtStep, Prints}
-use Rattle.aig_calls.specs.Listings.{text_in}
-use Rattle.aig_calls.specs.Memory.{On, Reader, Writer, bytes_of}
 
 -- something is done with a reader of these bytes
 pub on : (r rest : Reader) {bytes : Bor (List ℕ)} {Does : Reader → Reader → Type 0}

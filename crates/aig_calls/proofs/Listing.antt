@@ -1,7 +1,6 @@
 -- Clauses and numbers that are listed one after another.
-use Rattle.aig_base.proofs.Words.{◌≡◌, ℕ, ◌+◌, ◌<◌, ◌≤◌, Some, List, [], ◌∷◌, ◌++◌, length, get_or, map, take, zero, suc, sym, ap, ◌∙◌, append_assoc, append-nil, subst, arith, All, slice_get, flat_map, map-append, take_more, get_or_from_slice_get}
+use Rattle.aig_calls.proofs.Words.{◌≡◌, ℕ, ◌+◌, ◌<◌, ◌≤◌, Some, List, [], ◌∷◌, ◌++◌, length, get_or, map, take, zero, suc, sym, ap, ◌∙◌, append_assoc, append-nil, subst, arith, All, slice_get, flat_map, map-append, take_more, get_or_from_slice_get, AreBelow}
 use Rattle.aig_base.specs.declared.logic.literal.Lit.{Lit}
-use Rattle.aig_base.specs.Clauses.{AreBelow}
 
 next_one : {X Y : Type 0} (f : X → List Y) (xs : List X) (i : ℕ) (d : X) → i < length xs
     → flat_map f (take (suc i) xs) ≡ flat_map f (take i xs) ++ f (get_or xs i d)

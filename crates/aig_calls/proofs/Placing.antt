@@ -1,12 +1,9 @@
 -- The places of leaves are nodes of the unrolled circuit, and its last bad edges are cut out.
-use Rattle.aig_base.proofs.Words.{◌≡◌, ℕ, zero, suc, ◌+◌, ◌-◌, ◌*◌, ◌<◌, Bool, false, List, length, take, drop, ap, ◌∙◌, arith}
+use Rattle.aig_calls.proofs.Words.{◌≡◌, ℕ, zero, suc, ◌+◌, ◌-◌, ◌*◌, ◌<◌, Bool, false, List, length, take, drop, ap, ◌∙◌, arith, AigEdge, Circuit, IsCircuit, IsLeaf, place_at}
 use Rattle.std.proofs.lemmas.List.{length-drop, take_all}
-use Rattle.aig_circuit.specs.declared.edge.AigEdge.{AigEdge}
 use Rattle.aig_circuit.specs.declared.node.AigNodeType.TheVariants.{False, Leaf}
-use Rattle.aig_circuit.specs.Circuit.{Circuit, IsCircuit, IsLeaf}
 use Rattle.aig_circuit.proofs.Trees.{kind_at-within}
 use Rattle.aig_runs.specs.Queries.{last_bads}
-use Rattle.aig_unroll.specs.Places.{place_at}
 use Rattle.aig_unroll.specs.Unroll.{UnrollsTo}
 use Rattle.aig_witness.proofs.ShowingSolutions.{get_below}
 

@@ -1,39 +1,21 @@
 -- Words give one command.
-use Rattle.aig_base.proofs.Words.{◌⊎◌, Bool, true, false, length, length-append, cond, map, map-append, inl, inr, ◌++◌, Global, ◌≡◌, ◌↔◌, ℕ, List, ◌∷◌, [], Some, refl, sym, ap, ◌∙◌, arith, same_Some, suc, true≢false}
-use Rattle.std.specs.Prelude.{All, Contains, Err, IfNone, None, Ok, Option, Result, String, codes, slice_index, slice_index_or, string_bytes}
-use Rattle.aig_format.specs.Text.{IsNumber, value_of}
+use Rattle.aig_check_commands.proofs.Words.{◌⊎◌, Bool, true, false, length, length-append, cond, map, map-append, inl, inr, ◌++◌, Global, ◌≡◌, ◌↔◌, ℕ, List, ◌∷◌, [], Some, refl, sym, ap, ◌∙◌, arith, same_Some, suc, true≢false, Contains, IfNone, Result, slice_index, slice_index_or, IsNumber, value_of, ended, Arguments, GivesArguments, further_of, IsLimited, one_constraints, Constraints, OfBoth, ByName, ByOrder, Alike, Apart, Action, Asked, Command, WitnessAction, condition_name, Condition, Justice, AreJustice, IsNumbered, is_asked, AreCommand, FitNone, Give, IsAlone, IsCall, IsOf, IsOnWitness, IsWhole, beside_of, command_of, form_of, name_of, paths_of, raw_alone, raw_word, under, witness_form, witness_name}
+use Rattle.std.specs.Prelude.{All, Err, None, Ok, Option, String, codes, string_bytes}
 use Rattle.aig_command_line.specs.declared.help.Help.{Help}
 use Rattle.aig_command_line.specs.declared.help.Help.TheVariants.{Usage, Version}
 use Rattle.aig_command_line.specs.Help.{word_of}
 use Rattle.aig_command_line.specs.declared.status.Ending.TheVariants as endings
-use Rattle.aig_command_line.specs.Ending.{ended}
-use Rattle.aig_command_line.specs.Arguments.{Arguments, GivesArguments, further_of}
 use Rattle.aig_command_line.specs.declared.arguments.ArgumentForm.{ArgumentForm}
 use Rattle.aig_command_line.specs.declared.arguments.Given.{Given}
-use Rattle.aig_command_line.specs.Limits.{IsLimited}
 use Rattle.aig_command_line.proofs.Apart as apart
 use Rattle.aig_command_line.proofs.Limits.{asked_alone, one_limit}
 use Rattle.aig_edits.specs.Words.{AreConstraints}
-use Rattle.aig_edits.proofs.ConstraintWords.{one_constraints}
-use Rattle.aig_join.specs.declared.comparison.Constraints.{Constraints}
-use Rattle.aig_join.specs.declared.comparison.Constraints.TheVariants.{OfBoth}
-use Rattle.aig_join.specs.declared.starts.Matching.TheVariants.{ByName, ByOrder}
-use Rattle.aig_join.specs.declared.starts.Starts.TheVariants.{Alike, Apart}
-use Rattle.aig_check_commands.specs.declared.command.Action.{Action}
 use Rattle.aig_check_commands.specs.declared.command.Action.TheVariants as actions
-use Rattle.aig_check_commands.specs.declared.command.Asked.{Asked}
-use Rattle.aig_check_commands.specs.declared.command.Command.{Command}
 use Rattle.aig_check_commands.specs.declared.command.Command.TheVariants as commands
 use Rattle.aig_check_commands.specs.declared.command.TheConstants.Action.{ALL}
 use Rattle.aig_check_commands.specs.declared.command.TheConstants.WitnessAction as on_witness
-use Rattle.aig_check_commands.specs.declared.command.WitnessAction.{WitnessAction}
 use Rattle.aig_check_commands.specs.declared.command.WitnessAction.TheVariants as witness
-use Rattle.aig_simulation.specs.Names.{condition_name}
-use Rattle.aig_simulation.specs.declared.condition.Condition.{Condition}
 use Rattle.aig_simulation.specs.declared.condition.Condition.TheVariants as conditions
-use Rattle.aig_check_commands.specs.declared.justice.Justice.{Justice}
-use Rattle.aig_check_commands.specs.Justice.{AreJustice, IsNumbered, is_asked}
-use Rattle.aig_check_commands.specs.CommandWords.{AreCommand, FitNone, Give, IsAlone, IsCall, IsOf, IsOnWitness, IsWhole, beside_of, command_of, form_of, name_of, paths_of, raw_alone, raw_word, under, witness_form, witness_name}
 
 -- where a command stands in a list, by a test that computes
 abbrev place_in : {A : Type 0} → (A → List ℕ) → (A → ArgumentForm) → A → List A → ℕ

@@ -1,32 +1,17 @@
 -- The lines of comments, as a text for each place in a list, and behind them the clauses.
-use Rattle.std.proofs.Common.{◌≡◌, ℕ, Bool, ◌+◌, ◌<◌, ◌==◌, true, false, Option, Some, List, [], ◌∷◌, ◌++◌, length, get_or, refl, sym, ap, ◌∙◌, zero-add}
-use Rattle.aig_base.proofs.Words.{codes, decimal, enumerate_from, flat_map, range_with_len, zip}
-use Rattle.std.proofs.lemmas.Slice.Zip.{get_or-zip}
-use Rattle.std.proofs.lemmas.List.FromFn.{get_or-enumerate_from}
-use Rattle.aig_base.specs.declared.logic.literal.Lit.{Lit}
-use Rattle.aig_base.specs.Clauses.{lit_to, variable_of}
-use Rattle.aig_base.specs.Formula.{clauses_in}
-use Rattle.aig_circuit.proofs.Words.{Circuit, latch_leaves, lit_of}
-use Rattle.aig_unroll.specs.Places.{place_at}
-use Rattle.aig_runs.specs.Queries.{last_bads}
+use Rattle.aig_check_commands.proofs.Words.{◌==◌, zero-add, codes, enumerate_from, flat_map, range_with_len, zip, get_or-zip, get_or-enumerate_from, Lit, lit_to, variable_of, clauses_in, lit_of, place_at, last_bads, IsFormula, sign_of, ArePassed, StaysInside, decimal_inside, ends-append, ends-line_feed, inside-append, inside-cons, line_passed, parse_formula-passed, passed-append, passed-flat_map, sign_inside, parse_formula-dimacs_of, BoundedClauses, IsSum, Clauses, Title, letter_of, place_line, bad_line, input_line, latch_comment, IsQueryText, IsClausesText, title_of}
+use Rattle.std.proofs.Common.{◌≡◌, ℕ, Bool, ◌+◌, ◌<◌, true, false, Option, Some, List, [], ◌∷◌, ◌++◌, length, get_or, refl, sym, ap, ◌∙◌}
+use Rattle.aig_base.proofs.Words.{decimal}
+use Rattle.aig_circuit.proofs.Words.{Circuit, latch_leaves}
 use Rattle.aig_dimacs.specs.Reading.{after_comments, parse_formula}
-use Rattle.aig_dimacs.specs.Text.{IsFormula, dimacs_of, sign_of}
-use Rattle.aig_dimacs.proofs.Comments.{ArePassed, StaysInside, decimal_inside, ends-append, ends-line_feed, inside-append, inside-cons, line_passed, parse_formula-passed, passed-append, passed-flat_map, sign_inside}
-use Rattle.aig_dimacs.proofs.Reading.{parse_formula-dimacs_of}
+use Rattle.aig_dimacs.specs.Text.{dimacs_of}
 use Rattle.aig_format.proofs.Words.{File, circuit_of}
 use Rattle.aig_runs.proofs.Asking.{asks, encodes}
 use Rattle.aig_runs.specs.Unrolled.{IsUnrolledOf, UnrolledCircuit}
-use Rattle.aig_answers.specs.declared.bounded_checks.clauses.BoundedClauses.{BoundedClauses}
 use Rattle.aig_check_commands.proofs.Passing.{title_passed}
-use Rattle.aig_check_commands.specs.Sums.{IsSum}
 use Rattle.aig_check_commands.specs.Titles.{title_text}
-use Rattle.aig_check_commands.specs.declared.titles.title.Question.TheVariants.{Clauses}
-use Rattle.aig_check_commands.specs.declared.titles.title.Title.{Title}
-use Rattle.aig_check_commands.specs.Bounded.{bounded_comments, letter_of, place_line}
-use Rattle.aig_check_commands.specs.Comments.{bad_line, comments_of, input_line, input_lines, latch_comment, literal_line}
-use Rattle.aig_check_commands.specs.Printing.{IsQueryText}
-use Rattle.aig_check_commands.specs.Running.{IsClausesText}
-use Rattle.aig_check_commands.specs.Titling.{title_of}
+use Rattle.aig_check_commands.specs.Bounded.{bounded_comments}
+use Rattle.aig_check_commands.specs.Comments.{comments_of, input_lines, literal_line}
 
 pub line_at : {X : Type 0} (line : ℕ × X → List ℕ) (xs : List X) (i : ℕ) (d : X) → i < length xs
     → line (get_or (enumerate_from 0 xs) i (0, d)) ≡ line (i, get_or xs i d)

@@ -1,20 +1,10 @@
 -- What the command does that compares two files by a certificate, at each way out of it.
-use Rattle.aig_base.proofs.Words.{◌≡◌, ℕ, Bool, Option, Ok, Err, List, refl}
-use Rattle.std.specs.Prelude.{IsErrOf, IsTrue}
+use Rattle.aig_check_commands.proofs.Words.{◌≡◌, ℕ, Bool, Option, Ok, Err, List, refl, IsErrOf, IsTrue, EqualsBy, MiterError, reads_on, ReadsPair, Comparison, ChecksComparing, IsErrorOfComparing, TellsOfComparing, always_line, other_verdict_of, verdict_of, CheckError}
 use Rattle.aig_answers.specs.declared.error.AnswerError.TheVariants as answers
 use Rattle.aig_answers.specs.Comparing as comparing
-use Rattle.aig_answers.specs.Comparing.{EqualsBy}
-use Rattle.aig_answers.specs.declared.certificates.compare_error.MiterError.{MiterError}
 use Rattle.aig_answers.specs.declared.certificates.compare_error.MiterError.TheVariants as miter
 use Rattle.aig_answers.specs.declared.certificates.error.CertificateError.TheVariants as certificate
-use Rattle.aig_edits.proofs.Reading.{reads_on}
-use Rattle.aig_edits.specs.Pairs.{ReadsPair}
-use Rattle.aig_join.specs.declared.comparison.Comparison.{Comparison}
 use Rattle.aig_refutation.specs.declared.error.RefutationError.TheVariants as refutation
-use Rattle.aig_check_commands.specs.Comparing.{ChecksComparing, IsErrorOfComparing, TellsOfComparing}
-use Rattle.aig_check_commands.specs.Pairs.{always_line, other_verdict_of}
-use Rattle.aig_check_commands.specs.Running.{verdict_of}
-use Rattle.aig_check_commands.specs.declared.error.CheckError.{CheckError}
 use Rattle.aig_check_commands.specs.declared.error.CheckError.TheVariants as errors
 use Rattle.aig_check_commands.proofs.Outcomes.{err_of, is_error}
 

@@ -1,20 +1,10 @@
 -- What is told of proofs that are read is told of their texts.
-use Rattle.aig_base.proofs.Words.{◌≡◌, ◌≢◌, ℕ, Bool, Option, List, Result, Ok, Err, refl, ap}
-use Rattle.std.specs.Prelude.{IsErrOf}
-use Rattle.aig_answers.specs.Asking.{AnswersCircuit}
-use Rattle.aig_answers.specs.declared.bounded_checks.error.BoundedAnswerError.{BoundedAnswerError}
-use Rattle.aig_answers.specs.declared.certificates.error.CertificateError.{CertificateError}
-use Rattle.aig_circuit.specs.Circuit.{Circuit}
-use Rattle.aig_answers.specs.Equality.{AlwaysEquals}
-use Rattle.aig_answers.specs.declared.equality.error.EqualityError.{EqualityError}
+use Rattle.aig_check_commands.proofs.Words.{◌≡◌, ◌≢◌, ℕ, Bool, Option, List, Ok, Err, refl, ap, IsErrOf, AnswersCircuit, BoundedAnswerError, CertificateError, Circuit, AlwaysEquals, EqualityError, File, Comparison, Window, AlwaysEqualsBy, always_line, own_text}
+use Rattle.aig_base.proofs.Words.{Result}
 use Rattle.aig_answers.specs.declared.equality.error.EqualityError.TheVariants as always
-use Rattle.aig_format.specs.File.{File}
-use Rattle.aig_join.specs.declared.comparison.Comparison.{Comparison}
-use Rattle.aig_runs.specs.declared.window.Window.{Window}
 use Rattle.aig_answers.specs.Safety.{ShowsCircuit, TellsOfSafety}
 use Rattle.aig_answers.specs.declared.safety.error.SafetyError.{SafetyError}
 use Rattle.aig_answers.specs.declared.safety.error.SafetyError.TheVariants as proving
-use Rattle.aig_check_commands.specs.Pairs.{AlwaysEqualsBy, always_line, own_text}
 use Rattle.aig_check_commands.specs.declared.error.CheckError.TheVariants as errors
 
 pub equality_error : (e x : EqualityError) → errors.Equality e ≡ errors.Equality x

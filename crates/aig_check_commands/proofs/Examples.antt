@@ -1,67 +1,28 @@
 -- The comments of a small query, computed; and wrong words and lines, of which the definitions are
 -- false.
-use Rattle.aig_base.proofs.Words.{◌≡◌, ◌≢◌, ◌⊎◌, ℕ, All, Bool, true, false, None, Ok, Option, List, [], ◌∷◌, ◌++◌, length, refl, ap, subst, sym, arith, length-append, ◌∙◌, inl, inr, Some, same_Some, false≢true, Err, Result}
-use Rattle.std.specs.Prelude.{◌^◌, IsTrue, codes, decimal, not, slice_get, slice_index, slice_index_or}
+use Rattle.aig_check_commands.proofs.Words.{◌≡◌, ◌≢◌, ◌⊎◌, ℕ, All, Bool, true, false, None, Ok, Option, List, [], ◌∷◌, ◌++◌, length, refl, ap, subst, sym, arith, length-append, ◌∙◌, inl, inr, Some, same_Some, false≢true, Err, IsTrue, not, slice_get, slice_index, slice_index_or, lit_to, False, Leaf, AigEdge, Properties, only_false, edge_to, lit_of, no_properties, File, IsNumber, ByName, one_constraints, Comparison, Constraints, Compared, OfBoth, OfFirst, Alike, Apart, Accepted, Judges, RefutationError, AnswerError, BoundedClauses, AsksBounded, IsSettled, IsBoundedText, Condition, TellsOfCondition, TellsOfSimulated, Asked, Command, FileCommand, Justice, OpenError, CheckError, ChecksFile, IsErrorOf, TellsOfGiven, file_verdict, nothing_fails, nothing_given, shown_line, verdict_of, Window, TellsOfGoal, Acts, bytes_of, has_failed, PrintsMade, OnOpening, EndsWith, Arguments, GivesArguments, setting_words, IsLimited, Action, IsObligationsText, PairAnswers, RefusesPair, always_line, equal_line, safe_line, starts_text, AreCommand, FitNone, Give, IsAlone, IsOf, IsOnWitness, IsWhole, command_of, form_of, name_of, of_both, raw_alone, under, WitnessAction}
+use Rattle.aig_base.proofs.Words.{Result}
+use Rattle.std.specs.Prelude.{◌^◌, codes, decimal}
 use Rattle.std.specs.Fmt.{digits}
-use Rattle.aig_base.specs.Clauses.{lit_to}
-use Rattle.aig_circuit.specs.declared.node.AigNodeType.TheVariants.{False, Leaf}
-use Rattle.aig_circuit.specs.declared.edge.AigEdge.{AigEdge}
-use Rattle.aig_circuit.proofs.Words.{Circuit, Properties, only_false, edge_to, lit_of, no_properties}
-use Rattle.aig_format.specs.File.{File}
-use Rattle.aig_format.specs.Text.{IsNumber}
-use Rattle.aig_join.specs.declared.starts.Matching.TheVariants.{ByName}
-use Rattle.aig_edits.proofs.ConstraintWords.{one_constraints}
-use Rattle.aig_join.specs.declared.comparison.Comparison.{Comparison}
-use Rattle.aig_join.specs.declared.comparison.Constraints.{Constraints}
-use Rattle.aig_join.specs.declared.comparison.Constraints.TheVariants.{Compared, OfBoth, OfFirst}
-use Rattle.aig_join.specs.declared.starts.Starts.TheVariants.{Alike, Apart}
-use Rattle.aig_reader.specs.Verdicts.{Accepted, Judges}
-use Rattle.aig_refutation.specs.declared.error.RefutationError.{RefutationError}
-use Rattle.aig_answers.specs.declared.error.AnswerError.{AnswerError}
+use Rattle.aig_circuit.proofs.Words.{Circuit}
 use Rattle.aig_answers.specs.declared.error.AnswerError.TheVariants as answers
-use Rattle.aig_answers.specs.declared.bounded_checks.clauses.BoundedClauses.{BoundedClauses}
-use Rattle.aig_answers.specs.Asking.{AsksBounded, IsSettled}
-use Rattle.aig_check_commands.specs.Bounded.{IsBoundedText}
 use Rattle.aig_check_commands.specs.Titles.{title_text}
-use Rattle.aig_simulation.specs.declared.condition.Condition.{Condition}
-use Rattle.aig_simulated.specs.Simulated.{TellsOfCondition}
-use Rattle.aig_check_commands.specs.Simulating.{TellsOfSimulated}
 use Rattle.aig_witness.specs.declared.error.WitnessError.TheVariants as witness
 use Rattle.aig_witness.specs.declared.file.ShowError.TheVariants as shows
 use Rattle.aig_witness.specs.declared.fair.file.ShownProperty.TheVariants as properties
-use Rattle.aig_check_commands.specs.declared.command.Asked.{Asked}
-use Rattle.aig_check_commands.specs.declared.command.Command.{Command}
-use Rattle.aig_check_commands.specs.declared.command.FileCommand.{FileCommand}
-use Rattle.aig_check_commands.specs.declared.justice.Justice.{Justice}
 use Rattle.aig_check_commands.proofs.Calling.{no_justice}
-use Rattle.aig_command_line.specs.declared.files.OpenError.{OpenError}
 use Rattle.aig_command_line.specs.declared.files.OpenError.TheVariants as opening
 use Rattle.aig_answers.specs.declared.bounded_checks.error.BoundedAnswerError.TheVariants as bounded
 use Rattle.aig_reader.specs.declared.error.ReadError.TheVariants as read
-use Rattle.aig_check_commands.specs.declared.error.CheckError.{CheckError}
 use Rattle.aig_check_commands.specs.declared.error.CheckError.TheVariants as errors
-use Rattle.aig_check_commands.specs.Running.{ChecksFile, IsErrorOf, TellsOfGiven, file_verdict, nothing_fails, nothing_given, shown_line, verdict_of}
-use Rattle.aig_runs.specs.declared.window.Window.{Window}
-use Rattle.aig_check_commands.specs.Checked.{TellsOfGoal}
 use Rattle.aig_check_commands.specs.Goals.{safe_to_line, step_line, window_line}
 use Rattle.aig_check_commands.specs.declared.goals.Goal.TheVariants as goals
-use Rattle.aig_check_commands.specs.Acting.{Acts}
-use Rattle.aig_check_commands.specs.Inputs.{bytes_of, has_failed}
-use Rattle.aig_check_commands.specs.Living.{PrintsMade}
-use Rattle.aig_check_commands.specs.Opening.{OnOpening}
-use Rattle.aig_check_commands.specs.Printed.{EndsWith}
-use Rattle.aig_command_line.specs.Arguments.{Arguments, GivesArguments, setting_words}
-use Rattle.aig_command_line.specs.Limits.{IsLimited}
-use Rattle.aig_check_commands.specs.declared.command.Action.{Action}
 use Rattle.aig_check_commands.specs.declared.command.Action.TheVariants as actions
 use Rattle.aig_check_commands.specs.declared.command.Command.TheVariants as asked
 use Rattle.aig_check_commands.specs.declared.command.PairCommand.TheVariants as on_pair
-use Rattle.aig_check_commands.specs.Pairs.{IsObligationsText, PairAnswers, RefusesPair, always_line, equal_line, safe_line, starts_text}
 use Rattle.aig_answers.specs.declared.certificates.error.CertificateError.TheVariants as certificate
 use Rattle.aig_check_commands.specs.declared.command.FileCommand.TheVariants as commands
 use Rattle.aig_check_commands.specs.Comments.{comments_of, input_lines, literal_line}
-use Rattle.aig_check_commands.specs.CommandWords.{AreCommand, FitNone, Give, IsAlone, IsOf, IsOnWitness, IsWhole, command_of, form_of, name_of, of_both, raw_alone, under}
-use Rattle.aig_check_commands.specs.declared.command.WitnessAction.{WitnessAction}
 use Rattle.aig_check_commands.specs.declared.command.WitnessAction.TheVariants as on_witness
 
 -- ---- words

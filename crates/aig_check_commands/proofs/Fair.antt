@@ -1,18 +1,7 @@
 -- What the circuit that is made for a justice property shows of the file's fair runs.
-use Rattle.aig_base.proofs.Words.{◌≡◌, ◌↔◌, ℕ, Option, None, Some, true, arith}
-use Rattle.std.specs.Prelude.{MatchOption, is_none}
-use Rattle.aig_circuit.specs.Circuit.{Circuit}
-use Rattle.aig_edit_laws.specs.Fair.{HasFairLasso, HasFairRun}
+use Rattle.aig_check_commands.proofs.Words.{◌≡◌, ◌↔◌, ℕ, Option, None, Some, true, arith, MatchOption, is_none, Circuit, HasFairLasso, HasFairRun, IsLiveFile, IsRoundsFile, IsReadAgain, Text, file_of, IsSafeTo, safe_is, IsMadeOf, Justice}
 use Rattle.aig_edit_laws.specs.Shown.{HasWitness}
-use Rattle.aig_edits.specs.Lives.{IsLiveFile}
-use Rattle.aig_edits.specs.Rounds.{IsRoundsFile}
-use Rattle.aig_format.specs.Circuit.{IsReadAgain}
-use Rattle.aig_format.specs.declared.FileKind.TheVariants.{Text}
-use Rattle.aig_format.proofs.Words.{File, file_of}
-use Rattle.aig_runs.specs.Queries.{IsSafeTo}
-use Rattle.aig_runs.proofs.SafeSteps.{safe_is}
-use Rattle.aig_check_commands.specs.Made.{IsMadeOf}
-use Rattle.aig_check_commands.specs.declared.justice.Justice.{Justice}
+use Rattle.aig_format.proofs.Words.{File}
 
 -- a justice property has a fair run exactly where it has a fair lasso
 abbrev pub AreLassos : Type 0

@@ -1,33 +1,8 @@
 -- What a command printed on files that were opened, and was flushed.
-use Rattle.aig_base.proofs.Words.{◌≡◌, ◌≢◌, Bool, true, false, List, [], ◌∷◌, ◌++◌, ℕ, Option, None, Some, Ok, Err, inl, inr, refl, Appends, Keeps}
-use Rattle.std.specs.Prelude.{IfErr, IsTrue, Result}
-use Rattle.aig_command_line.proofs.Kept.{appends_kept, stops_unflushed}
-use Rattle.aig_command_line.specs.declared.files.OpenError.{OpenError}
-use Rattle.aig_edits.proofs.ReadFiles.{file_on}
-use Rattle.aig_format.specs.File.{File}
-use Rattle.aig_output.specs.Sinks.{Stops}
-use Rattle.aig_reader.specs.Verdicts.{Accepted, verdict_by}
-use Rattle.aig_check_commands.specs.declared.command.Asked.{Asked}
-use Rattle.aig_check_commands.specs.declared.command.Command.{Command}
+use Rattle.aig_check_commands.proofs.Words.{◌≡◌, ◌≢◌, Bool, true, false, List, [], ◌∷◌, ◌++◌, ℕ, Option, None, Some, Ok, Err, inl, inr, refl, Appends, Keeps, IfErr, IsTrue, Result, appends_kept, stops_unflushed, OpenError, file_on, File, Stops, Accepted, verdict_by, Asked, Command, Justice, CheckError, Acts, RanBy, RanOn, EndsWith, Printed, Ran, bytes_of, has_failed, ChecksText, Concludes, IsOfMaking, MeansMade, RunsMade, TellsMade, IsMadeOwn, made_verdict, HasFairRun, other_verdict_of, safe_line, verdict_of, IsErrorOfObligation, IsErrorOfSimulated, RunsObligation, RunsSimulated, TellsOfObligation, TellsOfSimulated, refusal_of, prints, Proofs, proof_for, proofs_of, ReadsWitness, refusal_by, witness_reads_on, Condition}
 use Rattle.aig_check_commands.specs.declared.command.Command.TheVariants as commands
-use Rattle.aig_check_commands.specs.declared.justice.Justice.{Justice}
-use Rattle.aig_check_commands.specs.declared.error.CheckError.{CheckError}
 use Rattle.aig_check_commands.specs.declared.error.CheckError.TheVariants as errors
-use Rattle.aig_check_commands.specs.Acting.{Acts, RanBy, RanOn}
-use Rattle.aig_check_commands.specs.Printed.{EndsWith, Printed}
-use Rattle.aig_check_commands.specs.Inputs.{Ran, bytes_of, has_failed}
-use Rattle.aig_check_commands.specs.Living.{ChecksText, Concludes, IsOfMaking, MeansMade, RunsMade, TellsMade}
-use Rattle.aig_check_commands.specs.Checked.{IsMadeOwn, made_verdict}
 use Rattle.aig_check_commands.specs.Goals.{no_run_line}
-use Rattle.aig_edit_laws.specs.Fair.{HasFairRun}
-use Rattle.aig_check_commands.specs.Pairs.{other_verdict_of, safe_line}
-use Rattle.aig_check_commands.specs.Running.{verdict_of}
-use Rattle.aig_check_commands.specs.Simulating.{IsErrorOfObligation, IsErrorOfSimulated, RunsObligation, RunsSimulated, TellsOfObligation, TellsOfSimulated, refusal_of}
-use Rattle.aig_check_commands.specs.CommandWords.{prints}
-use Rattle.aig_simulated.specs.Simulated.{Proofs, proof_for, proofs_of}
-use Rattle.aig_simulated.specs.Witnesses.{ReadsWitness, refusal_by}
-use Rattle.aig_simulated.proofs.Reading.{reads_on as witness_reads_on}
-use Rattle.aig_simulation.specs.declared.condition.Condition.{Condition}
 use Rattle.aig_check_commands.proofs.Opened.{opens_on}
 
 -- ---- the flush after an answer

@@ -1,3 +1,4 @@
+mod Words
 mod Making
 mod Nameless
 mod Commenting

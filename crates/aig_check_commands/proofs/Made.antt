@@ -1,53 +1,16 @@
 -- What the text of the file that is made for a justice property shows of the file itself.
-use Rattle.aig_base.proofs.Words.{◌≡◌, ◌≢◌, ◌==◌, ℕ, zero, suc, ◌+◌, ◌≤◌, ◌<◌, eqb-true, false_from_ne_true, sym, ◌∙◌, true≢false, Bool, true, false, List, [], ◌∷◌, Option, None, Some, Ok, Err, Vec, Global, refl, subst, arith, length, Appends, IsAtEnd, Consumes-whole}
+use Rattle.aig_check_commands.proofs.Words.{◌≡◌, ◌≢◌, ℕ, zero, suc, ◌+◌, ◌≤◌, ◌<◌, eqb-true, false_from_ne_true, sym, ◌∙◌, true≢false, Bool, true, false, List, [], ◌∷◌, Option, None, Some, Ok, Err, Vec, Global, refl, subst, arith, length, Appends, Consumes-whole, IfErr, IsTrue, MatchOption, Result, slice_get_within, WritesOrStops, Circuit, EditError, IsEditOwn, ReadsFile, edit_verdict, IsLiveFile, IsLiveRefusal, PrintsLive, IsRoundsFile, IsRoundsRefusal, PrintsRounds, file_on, IsReadAgain, text_of, Text, file_of, HasFairRun, IsReadAs, Accepted, verdict_by, one_file, Discarded, Command, FileCommand, PairCommand, Justice, CheckError, IsErrorOfComparing, Ran, Stream, bytes_of, has_failed, is_asked, ChecksText, Concludes, IsOfMaking, IsOnText, PrintsMade, RanMade, RunsMade, TellsMade, keeps_nothing, never_fails, RanBy, IsMadeOwn, made_verdict, IsMadeOf, IsUnmade, Goal, MakesText, WritesMade, text_error, EndsWith, Printed, after_writing, ChecksPair, IsErrorOfPair, safe_line, IsErrorOf, RunsObligation, RunsSimulated, Proofs, proofs_of, Condition, beside_of, prints}
+use Rattle.aig_base.proofs.Words.{◌==◌, IsAtEnd}
 use mathlib.Core.List.{map-id}
-use Rattle.std.specs.Prelude.{IfErr, IsTrue, MatchOption, Result}
-use Rattle.std.proofs.lemmas.Option.{slice_get_within}
-use Rattle.aig_output.specs.Sinks.{WritesOrStops}
-use Rattle.aig_circuit.specs.Circuit.{Circuit}
-use Rattle.aig_edits.specs.declared.edit_error.EditError.{EditError}
 use Rattle.aig_edits.specs.declared.edit_error.EditError.TheVariants as edit
-use Rattle.aig_edits.specs.Edits.{IsEditOwn, ReadsFile, edit_verdict}
-use Rattle.aig_edits.specs.Lives.{IsLiveFile, IsLiveRefusal, PrintsLive}
-use Rattle.aig_edits.specs.Rounds.{IsRoundsFile, IsRoundsRefusal, PrintsRounds}
-use Rattle.aig_edits.proofs.ReadFiles.{file_on}
-use Rattle.aig_format.specs.Circuit.{IsReadAgain, text_of}
-use Rattle.aig_format.specs.declared.FileKind.TheVariants.{Text}
 use Rattle.aig_format.specs.Fits.{Accepts}
-use Rattle.aig_format.proofs.Words.{File, file_of}
-use Rattle.aig_edit_laws.specs.Fair.{HasFairRun}
-use Rattle.aig_reader.specs.Reading.{IsReadAs}
-use Rattle.aig_reader.specs.Verdicts.{Accepted, verdict_by}
-use Rattle.aig_reader.proofs.Verdicts.{one_file}
-use Rattle.aig_command_line.specs.declared.discarded.Discarded.{Discarded}
-use Rattle.aig_check_commands.specs.declared.command.Command.{Command}
+use Rattle.aig_format.proofs.Words.{File}
 use Rattle.aig_check_commands.specs.declared.command.Command.TheVariants as commands
-use Rattle.aig_check_commands.specs.declared.command.FileCommand.{FileCommand}
 use Rattle.aig_check_commands.specs.declared.command.FileCommand.TheVariants as on_file
-use Rattle.aig_check_commands.specs.declared.command.PairCommand.{PairCommand}
 use Rattle.aig_check_commands.specs.declared.command.PairCommand.TheVariants as on_pair
-use Rattle.aig_check_commands.specs.declared.justice.Justice.{Justice}
-use Rattle.aig_check_commands.specs.declared.error.CheckError.{CheckError}
 use Rattle.aig_check_commands.specs.declared.error.CheckError.TheVariants as errors
-use Rattle.aig_check_commands.specs.Comparing.{IsErrorOfComparing}
-use Rattle.aig_check_commands.specs.Inputs.{Ran, Stream, bytes_of, has_failed}
-use Rattle.aig_check_commands.specs.Justice.{is_asked}
-use Rattle.aig_check_commands.specs.Living.{ChecksText, Concludes, IsOfMaking, IsOnText, PrintsMade, RanMade, RunsMade, TellsMade, keeps_nothing, never_fails}
-use Rattle.aig_check_commands.specs.Acting.{RanBy}
-use Rattle.aig_check_commands.specs.Checked.{IsMadeOwn, made_verdict}
-use Rattle.aig_check_commands.specs.Made.{IsMadeOf, IsUnmade}
-use Rattle.aig_check_commands.specs.declared.goals.Goal.{Goal}
 use Rattle.aig_check_commands.specs.declared.goals.Goal.TheVariants as goals
 use Rattle.aig_check_commands.proofs.Fair.{AreLassos, made_again, no_run}
-use Rattle.aig_check_commands.specs.LivingParts.{MakesText, WritesMade, text_error}
-use Rattle.aig_check_commands.specs.Printed.{EndsWith, Printed}
-use Rattle.aig_check_commands.specs.Printing.{after_writing}
-use Rattle.aig_check_commands.specs.Pairs.{ChecksPair, IsErrorOfPair, safe_line}
-use Rattle.aig_check_commands.specs.Running.{IsErrorOf}
-use Rattle.aig_check_commands.specs.Simulating.{RunsObligation, RunsSimulated}
-use Rattle.aig_simulated.specs.Simulated.{Proofs, proofs_of}
-use Rattle.aig_simulation.specs.declared.condition.Condition.{Condition}
-use Rattle.aig_check_commands.specs.CommandWords.{beside_of, prints}
 use Rattle.aig_check_commands.proofs.Outcomes.{printed_on, text_of_printed}
 use Rattle.aig_check_commands.proofs.Viewed.{ran_seen}
 

@@ -1,19 +1,7 @@
 -- The circuit that is asked about is read, or made of what is read.
-use Rattle.aig_base.proofs.Words.{◌≡◌, ℕ, Bool, Err, IfOk, List, None, Ok, Option, Some, refl}
-use Rattle.std.specs.Prelude.{Result}
-use Rattle.aig_circuit.specs.View.{lists_circuit}
+use Rattle.aig_check_commands.proofs.Words.{◌≡◌, ℕ, Bool, Err, IfOk, List, None, Ok, Option, Some, refl, Result, lists_circuit, IsCircuit, again_closed, again_starts, file_on, IsEditOwn, ReadsFile, edit_verdict, GivesLive, GivesRounds, EditError, GivesCircuit, IsReady, Justice}
 use Rattle.aig_circuit.specs.declared.view.CircuitLists.{CircuitLists}
-use Rattle.aig_circuit.proofs.Words.{IsCircuit}
-use Rattle.aig_edits.proofs.Again.{again_closed, again_starts}
-use Rattle.aig_edits.proofs.ReadFiles.{file_on}
-use Rattle.aig_edits.specs.Edits.{IsEditOwn, ReadsFile, edit_verdict}
-use Rattle.aig_edits.specs.Lives.{GivesLive}
-use Rattle.aig_edits.specs.Rounds.{GivesRounds}
-use Rattle.aig_edits.specs.declared.edit_error.EditError.{EditError}
 use Rattle.aig_format.proofs.Words.{File}
-use Rattle.aig_check_commands.specs.Checked.{GivesCircuit}
-use Rattle.aig_check_commands.specs.CheckedParts.{IsReady}
-use Rattle.aig_check_commands.specs.declared.justice.Justice.{Justice}
 use Rattle.aig_check_commands.proofs.Fair.{made_again}
 
 pub live_given : (a : Justice) (f : File) (x : Result CircuitLists EditError) → a.rounds ≡ None

@@ -1,24 +1,14 @@
 -- Names are nothing to the clauses of a question: a circuit with other names has the same.
-use Rattle.aig_base.proofs.Words.{◌≡◌, ℕ, zero, suc, ◌+◌, ◌-◌, AllZip, Bool, false, true, List, [], ◌∷◌, Option, ap, length, refl, subst, sym, ◌∙◌}
+use Rattle.aig_check_commands.proofs.Words.{◌≡◌, ℕ, zero, suc, ◌+◌, ◌-◌, AllZip, Bool, false, true, List, [], ◌∷◌, Option, ap, length, refl, subst, sym, ◌∙◌, IsCircuitOf, AsksOfBads, BoundedClauses, steps_named, with_names, Lit, Circuit, AigEdge, HasClauses, circuit_of, File}
 use Rattle.std.specs.FinMap.{FinMap}
 use Rattle.std.specs.Ordering.{nat_cmp}
-use Rattle.aig_answers.specs.Answers.{IsCircuitOf}
-use Rattle.aig_answers.specs.Asking.{AsksOfBads}
 use Rattle.aig_answers.specs.Naming.{IsNamed, leaf_of}
 use Rattle.aig_answers.specs.declared.bounded_checks.naming.Named.{Named}
-use Rattle.aig_answers.specs.declared.bounded_checks.clauses.BoundedClauses.{BoundedClauses}
-use Rattle.aig_answers.proofs.NamelessWindows.{steps_named, with_names}
-use Rattle.aig_base.specs.declared.logic.literal.Lit.{Lit}
 use Rattle.aig_bounded.specs.Exact.{IsExact, IsRead, Steps, frame_to, reached_in, states_at, steps_to}
 use Rattle.aig_bounded.specs.Exact.IsRead.{bad, constraint, operand, next}
 use Rattle.aig_bounded.specs.Cut.{IsCutOf}
 use Rattle.aig_bounded.specs.Shared.{Netlist}
 use Rattle.aig_bounded.specs.declared.place.Place.{Place}
-use Rattle.aig_circuit.specs.Circuit.{Circuit}
-use Rattle.aig_circuit.specs.declared.edge.AigEdge.{AigEdge}
-use Rattle.aig_cnf.specs.Cnf.{HasClauses}
-use Rattle.aig_format.specs.Circuit.{circuit_of}
-use Rattle.aig_format.specs.File.{File}
 use Rattle.aig_unroll.specs.Frame.{with_steps}
 
 module _ (names : FinMap nat_cmp (List ℕ)) (m : Circuit) where

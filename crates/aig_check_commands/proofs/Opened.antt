@@ -1,15 +1,8 @@
 -- Files that are opened in order.
-use Rattle.aig_base.proofs.Words.{◌≡◌, ◌+◌, ◌<◌, ◌≤◌, ℕ, zero, suc, Global, List, String, [], ◌∷◌, ◌++◌, ◌∙◌, Ok, Err, ap, arith, get_or, length, length-append, map, map_more, refl, string_bytes, subst, sym, take}
-use Rattle.std.specs.List.{remove}
-use Rattle.std.specs.Prelude.{Result}
-use Rattle.aig_command_line.specs.declared.files.OpenError.{OpenError}
-use Rattle.aig_check_commands.specs.declared.command.Command.{Command}
+use Rattle.aig_check_commands.proofs.Words.{◌≡◌, ◌+◌, ◌<◌, ◌≤◌, ℕ, zero, suc, Global, List, String, [], ◌∷◌, ◌++◌, ◌∙◌, Ok, Err, ap, arith, get_or, length, length-append, map, map_more, refl, string_bytes, subst, sym, take, remove, Result, OpenError, Command, CheckError, paths_of, AreOpened, OnOpening, OpensAll, unopened}
 use Rattle.aig_check_commands.specs.declared.command.Command.TheVariants as commands
-use Rattle.aig_check_commands.specs.declared.error.CheckError.{CheckError}
 use Rattle.aig_check_commands.specs.declared.error.CheckError.TheVariants as errors
 use Rattle.aig_check_commands.specs.Fits.{AreUnlisted, LacksOne}
-use Rattle.aig_check_commands.specs.CommandWords.{paths_of}
-use Rattle.aig_check_commands.specs.Opening.{AreOpened, OnOpening, OpensAll, unopened}
 
 module _ {F : Type 0} (opens : List ℕ → Result F OpenError → Type 0) where
   leads_on : (Holds Also : F → Type 0) (Fails AlsoFails : CheckError → Type 0)

@@ -1,31 +1,14 @@
 -- What a command does, at each way out of it.
-use Rattle.aig_base.proofs.Words.{◌≡◌, ◌≢◌, ℕ, Bool, false, Option, Ok, Err, List, refl, sym, ap, subst, Appends}
-use Rattle.std.specs.Prelude.{IsErrOf, Result}
-use Rattle.std.specs.Io.KnownBytes.{IsAtEnd}
-use Rattle.aig_format.specs.File.{File}
-use Rattle.aig_reader.specs.Reading.{IsReadAs}
-use Rattle.aig_reader.specs.Verdicts.{Accepted, IsOfFile, Judges, Verdict}
-use Rattle.aig_reader.proofs.Verdicts.{of_no_file, short_of}
-use Rattle.aig_output.specs.Sinks.{WritesOrStops}
+use Rattle.aig_check_commands.proofs.Words.{◌≡◌, ◌≢◌, ℕ, Bool, false, Option, Ok, Err, List, refl, sym, ap, subst, Appends, IsErrOf, Result, IsAtEnd, File, IsReadAs, Accepted, IsOfFile, Judges, Verdict, of_no_file, short_of, WritesOrStops, AnswerError, IsOfQuery, IsOfWindow, BoundedAnswerError, IsOfQuestion, IsOfWitness, IsSum, FileCommand, CheckError, EndsWith, Printed, IsKnownText, IsSolutionOf, IsTextOf, after_writing, Answers, ChecksFile, IsAskedBy, IsErrorOf, IsOfFileAlone, Runs, TellsOfGiven, TellsOfQuestion, TellsOfSolution, file_verdict, verdict_of}
 use Rattle.aig_encode.specs.declared.encoding.Encoded.{Encoded}
-use Rattle.aig_answers.specs.declared.error.AnswerError.{AnswerError}
 use Rattle.aig_answers.specs.Answers as asking
-use Rattle.aig_answers.specs.Answers.{IsOfQuery, IsOfWindow}
 use Rattle.aig_witness.specs.declared.solutions.error.SolutionError.{SolutionError}
 use Rattle.aig_witness.specs.Checked.{RefusesSolution}
 use Rattle.aig_bounded.specs.Question.{question_size}
-use Rattle.aig_answers.specs.declared.bounded_checks.error.BoundedAnswerError.{BoundedAnswerError}
 use Rattle.aig_answers.specs.declared.bounded_checks.error.BoundedAnswerError.TheVariants as bounded
 use Rattle.aig_answers.specs.Asking as bounding
-use Rattle.aig_answers.specs.Asking.{IsOfQuestion, IsOfWitness}
-use Rattle.aig_check_commands.specs.Sums.{IsSum}
-use Rattle.aig_check_commands.specs.declared.command.FileCommand.{FileCommand}
 use Rattle.aig_check_commands.specs.declared.command.FileCommand.TheVariants as commands
-use Rattle.aig_check_commands.specs.declared.error.CheckError.{CheckError}
 use Rattle.aig_check_commands.specs.declared.error.CheckError.TheVariants as errors
-use Rattle.aig_check_commands.specs.Printed.{EndsWith, Printed}
-use Rattle.aig_check_commands.specs.Printing.{IsKnownText, IsSolutionOf, IsTextOf, after_writing}
-use Rattle.aig_check_commands.specs.Running.{Answers, ChecksFile, IsAskedBy, IsErrorOf, IsOfFileAlone, Runs, TellsOfGiven, TellsOfQuestion, TellsOfSolution, file_verdict, verdict_of}
 
 pub is_error : (T E : Type 0) (e x : E) → IsErrOf {T = T} (Err e) x → e ≡ x
 is_error T E e x is = cc

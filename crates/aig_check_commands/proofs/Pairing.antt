@@ -1,49 +1,20 @@
 -- What a command on two files does, at each way out of it.
-use Rattle.aig_base.proofs.Words.{◌≡◌, ◌≢◌, ℕ, Bool, false, Option, Some, Ok, Err, List, [], ◌∷◌, ◌++◌, length, refl, ap, subst, ◌∙◌, Appends, Appends-trans, on_err_weaker, on_ok_weaker}
-use Rattle.std.specs.Io.KnownBytes.{IsAtEnd}
-use Rattle.std.specs.Prelude.{IsErr, IsTrue, Result, codes}
-use Rattle.aig_answers.specs.declared.error.AnswerError.{AnswerError}
-use Rattle.aig_answers.specs.declared.windows.WindowClauses.{WindowClauses}
+use Rattle.aig_check_commands.proofs.Words.{◌≡◌, ◌≢◌, ℕ, Bool, false, Option, Some, Ok, Err, List, [], ◌∷◌, ◌++◌, length, refl, ap, subst, ◌∙◌, Appends, Appends-trans, on_err_weaker, on_ok_weaker, IsAtEnd, IsErr, IsTrue, Result, AnswerError, WindowClauses, AreObligationsOf, Equals, CertificateError, clauses_in, Lit, Circuit, lists_circuit, HasClauses, ArePassed, parse_formula-passed, parse_formula-dimacs_of, IsFormula, IsTextWith, reads_on, ReadsPair, EqualityError, File, Comparison, Stops-before, Stops-put, failed_put, Stops, WritesOrStops, Verdict, RefutationError, IsSum, Title, PairCommand, CheckError, ChecksPair, IsErrorOfPair, IsObligationsText, LeavesBase, LeavesStep, PairAnswers, RefusesPair, TellsOfPair, formula_of, other_verdict_of, part_text, verdict_of, WritesBehind, clauses_with, pair_title}
+use Rattle.std.specs.Prelude.{codes}
 use Rattle.aig_answers.specs.declared.error.AnswerError.TheVariants as answers
 use Rattle.aig_answers.specs.declared.bounded_checks.error.BoundedAnswerError.TheVariants as bounded
 use Rattle.aig_answers.specs.Certificates as certificates
-use Rattle.aig_answers.specs.Certificates.{AreObligationsOf, Equals}
 use Rattle.aig_answers.specs.declared.certificates.asking.Obligations.{Obligations}
-use Rattle.aig_answers.specs.declared.certificates.error.CertificateError.{CertificateError}
 use Rattle.aig_answers.specs.declared.certificates.error.CertificateError.TheVariants as certificate
-use Rattle.aig_base.specs.Formula.{clauses_in}
-use Rattle.aig_base.specs.declared.logic.literal.Lit.{Lit}
-use Rattle.aig_circuit.specs.Circuit.{Circuit}
-use Rattle.aig_circuit.specs.View.{lists_circuit}
-use Rattle.aig_cnf.specs.Cnf.{HasClauses}
-use Rattle.aig_dimacs.proofs.Comments.{ArePassed, parse_formula-passed}
-use Rattle.aig_dimacs.proofs.Reading.{parse_formula-dimacs_of}
 use Rattle.aig_dimacs.specs.Reading.{after_comments, parse_formula}
-use Rattle.aig_dimacs.specs.Text.{IsFormula, IsTextWith, dimacs_of}
-use Rattle.aig_edits.proofs.Reading.{reads_on}
+use Rattle.aig_dimacs.specs.Text.{dimacs_of}
 use Rattle.aig_edits.specs.Joints.{IsJointOf}
-use Rattle.aig_edits.specs.Pairs.{ReadsPair}
 use Rattle.aig_edits.specs.declared.pairing.Pairing.TheVariants.{Certificate}
-use Rattle.aig_answers.specs.declared.equality.error.EqualityError.{EqualityError}
 use Rattle.aig_answers.specs.declared.equality.error.EqualityError.TheVariants as always
-use Rattle.aig_format.specs.File.{File}
-use Rattle.aig_join.specs.declared.comparison.Comparison.{Comparison}
-use Rattle.aig_output.proofs.Putting.{Stops-before, Stops-put, failed_put}
-use Rattle.aig_output.specs.Sinks.{Stops, WritesOrStops}
-use Rattle.aig_reader.specs.Verdicts.{Verdict}
-use Rattle.aig_refutation.specs.declared.error.RefutationError.{RefutationError}
 use Rattle.aig_refutation.specs.declared.error.RefutationError.TheVariants as refutation
 use Rattle.aig_answers.specs.declared.safety.error.SafetyError.TheVariants as proving
-use Rattle.aig_check_commands.specs.Sums.{IsSum}
 use Rattle.aig_check_commands.specs.Titles.{title_text}
-use Rattle.aig_check_commands.specs.declared.titles.title.Title.{Title}
-use Rattle.aig_check_commands.specs.declared.command.PairCommand.{PairCommand}
-use Rattle.aig_check_commands.specs.declared.error.CheckError.{CheckError}
 use Rattle.aig_check_commands.specs.declared.error.CheckError.TheVariants as errors
-use Rattle.aig_check_commands.specs.Pairs.{ChecksPair, IsErrorOfPair, IsObligationsText, LeavesBase, LeavesStep, PairAnswers, RefusesPair, TellsOfPair, formula_of, other_verdict_of, part_text}
-use Rattle.aig_check_commands.specs.Running.{verdict_of}
-use Rattle.aig_check_commands.specs.Printing.{WritesBehind, clauses_with}
-use Rattle.aig_check_commands.specs.Titling.{pair_title}
 use Rattle.aig_check_commands.proofs.Outcomes.{is_error, summed}
 
 inner_error : (x y : CertificateError) → errors.Certificate x ≡ errors.Certificate y → x ≡ y

@@ -1,16 +1,13 @@
 -- A plain reader of clauses passes over their title.
-use Rattle.std.proofs.Common.{◌≡◌, ℕ, zero, suc, ◌==◌, ◌/◌, ◌%◌, Bool, true, false, List, [], ◌∷◌, ◌++◌, Option, Some, None, refl}
-use Rattle.aig_base.proofs.Words.{codes, decimal, get_or, slice_index, AllByRecursion}
-use Rattle.hex.specs.Hex.{encode_lower, encode_with, lower_digits}
+use Rattle.aig_check_commands.proofs.Words.{◌==◌, ◌/◌, ◌%◌, codes, get_or, AllByRecursion, encode_lower, lower_digits, ArePassed, StaysInside, decimal_inside, ends-append, ends-line_feed, inside-append, inside-cons, line_passed, Bounded, Clauses, Obligation, Obligations, Title, condition_name, Condition, beside_text, distinct_text, numbered_text, question_text, raw_text}
+use Rattle.std.proofs.Common.{◌≡◌, ℕ, zero, suc, Bool, true, false, List, [], ◌∷◌, ◌++◌, Option, Some, None, refl}
+use Rattle.aig_base.proofs.Words.{decimal, slice_index}
+use Rattle.hex.specs.Hex.{encode_with}
 use Rattle.aig_dimacs.specs.Reading.{after_comments}
-use Rattle.aig_dimacs.proofs.Comments.{ArePassed, StaysInside, decimal_inside, ends-append, ends-line_feed, inside-append, inside-cons, line_passed}
 use Rattle.aig_check_commands.specs.declared.titles.title.Question.{Question}
-use Rattle.aig_check_commands.specs.declared.titles.title.Question.TheVariants.{Bounded, Clauses, Obligation, Obligations, Window}
-use Rattle.aig_check_commands.specs.declared.titles.title.Title.{Title}
-use Rattle.aig_simulation.specs.Names.{condition_name}
-use Rattle.aig_simulation.specs.declared.condition.Condition.{Condition}
+use Rattle.aig_check_commands.specs.declared.titles.title.Question.TheVariants.{Window}
 use Rattle.aig_simulation.specs.declared.condition.Condition.TheVariants as conditions
-use Rattle.aig_check_commands.specs.Titles.{beside_text, distinct_text, numbered_text, question_text, raw_text, title_text}
+use Rattle.aig_check_commands.specs.Titles.{title_text}
 
 -- ---- sums
 

@@ -1,14 +1,8 @@
 -- The places of leaves are nodes of the unrolled circuit; and the inputs of a question are
 -- variables.
-use Rattle.aig_base.proofs.Words.{ℕ, zero, suc, ◌^◌, ◌<◌, ◌≤◌, Bool, length, arith, All}
-use Rattle.aig_circuit.specs.declared.node.AigNodeType.TheVariants.{False, Leaf}
-use Rattle.aig_circuit.proofs.Words.{Circuit, IsCircuit, IsLeaf, lists_circuit}
+use Rattle.aig_check_commands.proofs.Words.{ℕ, zero, suc, ◌^◌, ◌<◌, ◌≤◌, Bool, length, arith, All, False, Leaf, IsCircuit, IsLeaf, place_at, UnrollsTo, File, BoundedClauses, AsksBounded}
+use Rattle.aig_circuit.proofs.Words.{Circuit, lists_circuit}
 use Rattle.aig_circuit.proofs.Trees.{kind_at-within}
-use Rattle.aig_unroll.specs.Places.{place_at}
-use Rattle.aig_unroll.specs.Unroll.{UnrollsTo}
-use Rattle.aig_format.specs.File.{File}
-use Rattle.aig_answers.specs.declared.bounded_checks.clauses.BoundedClauses.{BoundedClauses}
-use Rattle.aig_answers.specs.Asking.{AsksBounded}
 use Rattle.aig_witness.proofs.ShowingSolutions.{get_below}
 
 module _ (c u : Circuit) (k : ℕ) (steps : UnrollsTo c k u) where

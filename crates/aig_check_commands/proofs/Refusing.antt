@@ -1,19 +1,9 @@
 -- What is asked is refused again, of which one input is counted.
-use Rattle.aig_base.proofs.Words.{◌≡◌, ◌<◌, ℕ, zero, suc, Bool, List, [], ◌∷◌, Option, Some, Ok, Err, ap, arith, get_or, length, map, map-map, refl, sym, ◌∙◌}
-use Rattle.std.specs.Prelude.{IfOk, Result, slice_get}
-use Rattle.std.specs.List.{insert, remove}
-use Rattle.aig_command_line.specs.declared.discarded.Discarded.{Discarded}
-use Rattle.aig_command_line.specs.declared.files.OpenError.{OpenError}
+use Rattle.aig_check_commands.proofs.Words.{◌≡◌, ◌<◌, ℕ, zero, suc, Bool, List, [], ◌∷◌, Option, Some, Ok, Err, ap, arith, get_or, length, map, map-map, refl, sym, ◌∙◌, Result, slice_get, insert, remove, Discarded, OpenError, Asked, CheckError, RanOn, IsRefusedIn, Stream, bytes_of, has_failed, keeps_nothing, never_fails, AreOpened}
+use Rattle.std.specs.Prelude.{IfOk}
 use Rattle.aig_command_line.specs.declared.tally.Measure.{Measure}
 use Rattle.aig_command_line.specs.declared.tally.Place.{Place}
 use Rattle.aig_command_line.specs.Came.{IsPlaceIn}
-use Rattle.aig_check_commands.specs.declared.command.Asked.{Asked}
-use Rattle.aig_check_commands.specs.declared.error.CheckError.{CheckError}
-use Rattle.aig_check_commands.specs.Acting.{RanOn}
-use Rattle.aig_check_commands.specs.Explaining.{IsRefusedIn}
-use Rattle.aig_check_commands.specs.Inputs.{Stream, bytes_of, has_failed}
-use Rattle.aig_check_commands.specs.Living.{keeps_nothing, never_fails}
-use Rattle.aig_check_commands.specs.Opening.{AreOpened}
 use Rattle.aig_check_commands.proofs.Viewed.{on_seen}
 
 -- one of a list was taken out, and what is seen as it is put back among the others

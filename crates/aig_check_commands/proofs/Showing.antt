@@ -1,33 +1,15 @@
 -- The plan of a goal can be asked of a circuit, and where all that it asks holds, the goal's line
 -- says what is so of FILE.
-use Rattle.aig_base.proofs.Words.{◌≡◌, ◌↔◌, ◌≤◌, ◌<◌, ◌^◌, ◌+◌, ◌∷◌, [], ℕ, All, All-append, All-cons, All-map, All-nil, Bool, List, None, Option, Some, ap, arith, length, length-append, map, refl, subst, sym}
+use Rattle.aig_check_commands.proofs.Words.{◌≡◌, ◌↔◌, ◌≤◌, ◌<◌, ◌^◌, ◌+◌, ◌∷◌, [], ℕ, All, All-append, All-cons, All-map, All-nil, Bool, List, None, Option, Some, ap, arith, length, length-append, map, refl, subst, sym, IsTrue, length-map-range_with_len, IsCircuitOf, without_names, CanBeAsked, Covers, Holds, asked_with, plan_each, plan_to, step_questions, Question, Circuit, AreAskedBy, HasFairLasso, HasFairRun, again_fits, Fits, edge_of, file_of, Text, IsSafeTo, Window, safe_is, IsAskedOf, IsReady, is_asked_by, IsMadeOf, Goal, Justice}
 use Rattle.std.specs.List.{range_with_len}
-use Rattle.std.specs.Prelude.{IsTrue}
-use Rattle.std.proofs.lemmas.List.FromFn.{length-map-range_with_len}
-use Rattle.aig_answers.specs.Answers.{IsCircuitOf, without_names}
-use Rattle.aig_answers.specs.Plans.{CanBeAsked, Covers, Holds, asked_with, plan_each, plan_to, step_questions}
 use Rattle.aig_answers.specs.declared.plans.asking.Ask.TheVariants as asks
-use Rattle.aig_answers.specs.declared.plans.asking.Question.{Question}
-use Rattle.aig_circuit.specs.Circuit.{Circuit}
-use Rattle.aig_edit_laws.specs.Fair.{AreAskedBy, HasFairLasso, HasFairRun}
-use Rattle.aig_edits.proofs.Again.{again_fits}
-use Rattle.aig_format.proofs.Words.{File, Fits, circuit_of, edge_of, file_of}
-use Rattle.aig_format.specs.declared.FileKind.TheVariants.{Text}
+use Rattle.aig_format.proofs.Words.{File, circuit_of}
 use Rattle.aig_live.specs.Live.{IsLiveOf}
 use Rattle.aig_runs.specs.CircuitQueries.{HasCircuitWitness}
 use Rattle.aig_runs.specs.Induction.{IsKInductive}
-use Rattle.aig_runs.specs.Queries.{IsSafeTo}
 use Rattle.aig_runs.specs.Safety.{IsCircuitSafeAt, IsSafeAt}
-use Rattle.aig_runs.specs.declared.window.Window.{Window}
-use Rattle.aig_runs.proofs.SafeSteps.{safe_is}
-use Rattle.aig_check_commands.specs.Checked.{IsAskedOf}
-use Rattle.aig_check_commands.specs.CheckedParts.{IsReady}
 use Rattle.aig_check_commands.specs.Goals.{Shows, last_step, plan_of, proof_count}
-use Rattle.aig_check_commands.specs.Justice.{is_asked_by}
-use Rattle.aig_check_commands.specs.Made.{IsMadeOf}
-use Rattle.aig_check_commands.specs.declared.goals.Goal.{Goal}
 use Rattle.aig_check_commands.specs.declared.goals.Goal.TheVariants as goals
-use Rattle.aig_check_commands.specs.declared.justice.Justice.{Justice}
 use Rattle.aig_check_commands.proofs.Fair.{AreLassos, live_of, made_again, no_run}
 
 -- ---- plans

@@ -1,21 +1,14 @@
 -- A witness that is taken answers the file, and one that is refused says why.
-use Rattle.aig_base.proofs.Words.{◌≡◌, ℕ, Bool, Option, Err, List, refl, ap}
-use Rattle.std.specs.Prelude.{IsErrOf}
-use Rattle.aig_format.proofs.Words.{Accepts}
+use Rattle.aig_check_commands.proofs.Words.{◌≡◌, ℕ, Bool, Option, Err, List, refl, ap, IsErrOf, Accepts, RefusesClaim, ShowsClaim, ReadError, IsReadAs, Accepted, Judges, Answers, IsOfFileAlone, Runs, error_of_claim, shown_line}
 use Rattle.aig_witness.specs.declared.fair.file.ClaimError.{ClaimError}
 use Rattle.aig_witness.specs.declared.fair.file.ClaimError.TheVariants as claims
 use Rattle.aig_witness.specs.declared.fair.file.ShownProperty.{ShownProperty}
 use Rattle.aig_witness.specs.Claims as showing
-use Rattle.aig_witness.specs.Claims.{RefusesClaim, ShowsClaim}
-use Rattle.aig_reader.specs.declared.error.ReadError.{ReadError}
 use Rattle.aig_reader.specs.declared.error.ReadError.TheVariants as read
-use Rattle.aig_reader.specs.Reading.{IsReadAs}
-use Rattle.aig_reader.specs.Verdicts.{Accepted, Judges}
 use Rattle.aig_witness.specs.declared.file.ShowError.{ShowError}
 use Rattle.aig_witness.specs.declared.file.ShowError.TheVariants as shows
 use Rattle.aig_check_commands.specs.declared.command.FileCommand.TheVariants as commands
 use Rattle.aig_check_commands.specs.declared.error.CheckError.TheVariants as errors
-use Rattle.aig_check_commands.specs.Running.{Answers, IsOfFileAlone, Runs, error_of_claim, shown_line}
 use Rattle.aig_check_commands.proofs.Outcomes.{err_of, refused}
 
 -- what was shown answers the file

@@ -1,33 +1,15 @@
 -- What the commands on a witness circuit do, at each way out of them.
-use Rattle.aig_base.proofs.Words.{◌≡◌, ℕ, Bool, false, Option, Ok, Err, List, ◌++◌, length, refl, sym, ap, subst, Appends, IsAtEnd}
-use Rattle.std.specs.Prelude.{IsErrOf, IsTrue, Result}
-use Rattle.aig_answers.specs.Answers.{query_with}
-use Rattle.aig_base.specs.Formula.{clauses_in}
-use Rattle.aig_base.specs.declared.logic.literal.Lit.{Lit}
-use Rattle.aig_cnf.specs.Cnf.{HasClauses}
-use Rattle.aig_dimacs.specs.Text.{IsFormula, dimacs_of}
-use Rattle.aig_format.specs.File.{File}
-use Rattle.aig_output.specs.Sinks.{Stops, WritesOrStops}
-use Rattle.aig_reader.specs.Verdicts.{Verdict}
-use Rattle.aig_reader.specs.declared.error.ReadError.{ReadError}
+use Rattle.aig_check_commands.proofs.Words.{◌≡◌, ℕ, Bool, false, Option, Ok, Err, List, ◌++◌, length, refl, sym, ap, subst, Appends, IsErrOf, IsTrue, Result, query_with, clauses_in, Lit, HasClauses, IsFormula, File, Stops, WritesOrStops, Verdict, ReadError, Certifies, IsOfObligation, IsOwn, Obliges, Proofs, first_verdict, proof_for, ReadsWitness, Condition, safe_line, after_writing, clauses_with, verdict_of, IsErrorOfObligation, IsErrorOfSimulated, IsObligationText, RunsObligation, RunsSimulated, TellsOfObligation, TellsOfSimulated, refusal_of, IsSum, condition_title, CheckError}
+use Rattle.aig_base.proofs.Words.{IsAtEnd}
+use Rattle.aig_dimacs.specs.Text.{dimacs_of}
 use Rattle.aig_refutation.specs.declared.error.RefutationError.TheVariants as refutation
 use Rattle.aig_simulated.specs.Simulated as simulated
-use Rattle.aig_simulated.specs.Simulated.{Certifies, IsOfObligation, IsOwn, Obliges, Proofs, first_verdict, proof_for}
-use Rattle.aig_simulated.specs.Witnesses.{ReadsWitness}
 use Rattle.aig_simulated.specs.declared.error.ConditionError.TheVariants as conditions
 use Rattle.aig_simulated.specs.declared.error.SimulationError.{SimulationError}
 use Rattle.aig_simulated.specs.declared.error.SimulationError.TheVariants as simulation
 use Rattle.aig_simulated.specs.declared.obligation.Obligation.{Obligation}
 use Rattle.aig_simulated.proofs.Reading.{reads_on}
-use Rattle.aig_simulation.specs.declared.condition.Condition.{Condition}
-use Rattle.aig_check_commands.specs.Pairs.{safe_line}
-use Rattle.aig_check_commands.specs.Printing.{after_writing, clauses_with}
-use Rattle.aig_check_commands.specs.Running.{verdict_of}
-use Rattle.aig_check_commands.specs.Simulating.{IsErrorOfObligation, IsErrorOfSimulated, IsObligationText, RunsObligation, RunsSimulated, TellsOfObligation, TellsOfSimulated, refusal_of}
-use Rattle.aig_check_commands.specs.Sums.{IsSum}
 use Rattle.aig_check_commands.specs.Titles.{title_text}
-use Rattle.aig_check_commands.specs.Titling.{condition_title}
-use Rattle.aig_check_commands.specs.declared.error.CheckError.{CheckError}
 use Rattle.aig_check_commands.specs.declared.error.CheckError.TheVariants as errors
 use Rattle.aig_check_commands.proofs.Commenting.{titled_again}
 use Rattle.aig_check_commands.proofs.Outcomes.{err_of, is_error, summed}

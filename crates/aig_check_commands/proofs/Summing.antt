@@ -1,13 +1,10 @@
 -- Sums of bytes that came in pieces, and of all that were there.
-use Rattle.aig_base.proofs.Words.{◌≡◌, ℕ, Bool, true, false, List, [], ◌++◌, Option, None, Some, Consumes, Consumes-whole, subst, ◌∙◌, sym}
+use Rattle.aig_check_commands.proofs.Words.{◌≡◌, ℕ, Bool, true, false, List, [], ◌++◌, Option, None, Some, Consumes, Consumes-whole, subst, ◌∙◌, sym, ∥∥₁_elim, IsAtEnd, IsSum, Sums}
 use denote.Struct.Props.{props}
-use Rattle.std.proofs.Math.Logic.{∥∥₁_elim}
 use Rattle.std.proofs.KnownBytes.{Consumes-nil, Consumes-trans}
-use Rattle.std.specs.Io.KnownBytes.{IsAtEnd}
 use Rattle.sha2.specs.Hashers.{Holds256}
 use Rattle.sha2.specs.Sha256.{sha256}
 use Rattle.sha2.specs.declared.Sha256.{Sha256}
-use Rattle.aig_check_commands.specs.Sums.{IsSum, Sums}
 
 -- no byte came
 pub begun : (start left : Option (List ℕ)) (failed : Bool) (hasher : Sha256) → left ≡ start

@@ -1,46 +1,13 @@
 -- What a command does is so of what is seen of its files: of their bytes alone.
-use Rattle.aig_base.proofs.Words.{inl, inr, ◌≡◌, ℕ, ◌+◌, Bool, true, false, List, [], ◌∷◌, Option, None, Some, Ok, Err, ap, fun_ext, map, refl, subst, sym, ◌∙◌}
-use Rattle.std.specs.Prelude.{IfErr, IsTrue, Result, option_map}
-use Rattle.std.proofs.lemmas.Option.{slice_get-map}
-use Rattle.aig_answers.specs.Comparing.{CertifiesMiter, EqualsBy}
-use Rattle.aig_answers.specs.declared.certificates.compare_error.MiterError.{MiterError}
+use Rattle.aig_check_commands.proofs.Words.{inl, inr, ◌≡◌, ℕ, ◌+◌, Bool, true, false, List, [], ◌∷◌, Option, None, Some, Ok, Err, ap, fun_ext, map, refl, subst, sym, ◌∙◌, IfErr, IsTrue, Result, option_map, slice_get-map, CertifiesMiter, EqualsBy, MiterError, CertificateError, Circuit, File, Comparison, IsReadAs, Asked, Command, FileCommand, PairCommand, CheckError, ChecksComparing, TellsOfComparing, RanBy, RanOn, Justice, Ran, bytes_of, has_failed, ChecksText, Concludes, MeansMade, PrintsMade, TellsMade, ChecksGoal, ChecksWithin, TellsOfGoal, Goal, HasFairRun, AnswersAt, AreUnread, ChecksCircuit, IsHeld, Tells, Question, WindowClauses, RefutationError, prints, Printed, ChecksPair, ChecksFile, nothing_fails, nothing_given, LeavesProof, RunsObligation, RunsSimulated, TellsOfSimulated, Proofs, proof_for, proofs_of, Condition}
 use Rattle.aig_answers.specs.declared.certificates.compare_error.MiterError.TheVariants as miter
-use Rattle.aig_answers.specs.declared.certificates.error.CertificateError.{CertificateError}
-use Rattle.aig_circuit.specs.Circuit.{Circuit}
-use Rattle.aig_format.specs.File.{File}
-use Rattle.aig_join.specs.declared.comparison.Comparison.{Comparison}
-use Rattle.aig_reader.specs.Reading.{IsReadAs}
-use Rattle.aig_check_commands.specs.declared.command.Asked.{Asked}
-use Rattle.aig_check_commands.specs.declared.command.Command.{Command}
 use Rattle.aig_check_commands.specs.declared.command.Command.TheVariants as commands
-use Rattle.aig_check_commands.specs.declared.command.FileCommand.{FileCommand}
-use Rattle.aig_check_commands.specs.declared.command.PairCommand.{PairCommand}
-use Rattle.aig_check_commands.specs.declared.error.CheckError.{CheckError}
 use Rattle.aig_check_commands.specs.declared.error.CheckError.TheVariants as errors
-use Rattle.aig_check_commands.specs.Comparing.{ChecksComparing, TellsOfComparing}
-use Rattle.aig_check_commands.specs.Acting.{RanBy, RanOn}
-use Rattle.aig_check_commands.specs.declared.justice.Justice.{Justice}
-use Rattle.aig_check_commands.specs.Inputs.{Ran, bytes_of, has_failed}
-use Rattle.aig_check_commands.specs.Living.{ChecksText, Concludes, MeansMade, PrintsMade, TellsMade}
-use Rattle.aig_check_commands.specs.Checked.{ChecksGoal, ChecksWithin, TellsOfGoal}
 use Rattle.aig_check_commands.specs.Goals.{no_run_line, plan_of}
-use Rattle.aig_check_commands.specs.declared.goals.Goal.{Goal}
-use Rattle.aig_edit_laws.specs.Fair.{HasFairRun}
-use Rattle.aig_answers.specs.Plans.{AnswersAt, AreUnread, ChecksCircuit, IsHeld, Tells}
-use Rattle.aig_answers.specs.declared.plans.asking.Question.{Question}
 use Rattle.aig_answers.specs.declared.plans.errors.PlanError.{PlanError}
 use Rattle.aig_answers.specs.declared.plans.errors.PlanError.TheVariants as plans
 use Rattle.aig_answers.specs.declared.plans.errors.Why.{Why}
 use Rattle.aig_answers.specs.declared.plans.errors.Why.TheVariants as whys
-use Rattle.aig_answers.specs.declared.windows.WindowClauses.{WindowClauses}
-use Rattle.aig_refutation.specs.declared.error.RefutationError.{RefutationError}
-use Rattle.aig_check_commands.specs.CommandWords.{prints}
-use Rattle.aig_check_commands.specs.Printed.{Printed}
-use Rattle.aig_check_commands.specs.Pairs.{ChecksPair}
-use Rattle.aig_check_commands.specs.Running.{ChecksFile, nothing_fails, nothing_given}
-use Rattle.aig_check_commands.specs.Simulating.{LeavesProof, RunsObligation, RunsSimulated, TellsOfSimulated}
-use Rattle.aig_simulated.specs.Simulated.{Proofs, proof_for, proofs_of}
-use Rattle.aig_simulation.specs.declared.condition.Condition.{Condition}
 use Rattle.aig_simulation.specs.declared.condition.Condition.TheVariants as conditions
 use Rattle.aig_check_commands.proofs.Outcomes.{printed_on}
 use Rattle.aig_check_commands.proofs.Pairing.{reads_under}

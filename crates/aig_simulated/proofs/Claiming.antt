@@ -1,20 +1,7 @@
 -- What the circuits of two files claim.
-use Rattle.aig_base.proofs.Words.{◌≡◌, ◌≢◌, ◌∷◌, ℕ, List, Option, [], None, Result, Ok, Err, map, refl, sym, ap, subst, ◌∙◌, IfErr, fun_ext}
-use Rattle.aig_circuit.specs.Circuit.{Circuit}
-use Rattle.aig_format.proofs.Words.{File, circuit_of, edge_of}
-use Rattle.aig_reader.specs.Reading.{node_in}
-use Rattle.aig_reader.specs.Resets.{circuit_with_resets}
-use Rattle.aig_reader.specs.Verdicts.{Accepted, verdict_by}
-use Rattle.aig_simulation.specs.Circular.{IsCircular}
-use Rattle.aig_simulation.specs.Named.{IsFault, Shares}
-use Rattle.aig_simulation.specs.Simulation.{Sharing}
+use Rattle.aig_simulated.proofs.Words.{◌≡◌, ◌≢◌, ◌∷◌, ℕ, List, Option, [], None, Result, Ok, Err, map, refl, sym, ap, subst, ◌∙◌, IfErr, fun_ext, Circuit, File, circuit_of, edge_of, node_in, circuit_with_resets, Accepted, verdict_by, IsCircular, IsFault, Shares, Sharing, Claim, SimulationError, MakesClaim, Claims, HasBads, IsOfClaim, first_verdict, refusal_of, refusal_by}
 use Rattle.aig_simulation.proofs.Saying.{carry3}
-use Rattle.aig_simulated.specs.declared.claim.Claim.{Claim}
-use Rattle.aig_simulated.specs.declared.error.SimulationError.{SimulationError}
 use Rattle.aig_simulated.specs.declared.error.SimulationError.TheVariants as errors
-use Rattle.aig_simulated.specs.Conditions.{MakesClaim}
-use Rattle.aig_simulated.specs.Simulated.{Claims, HasBads, IsOfClaim, first_verdict, refusal_of}
-use Rattle.aig_simulated.specs.Witnesses.{refusal_by}
 
 -- no bad edges are of no bad literals
 none_mapped : {X Y : Type 0} (f : X → Y) (xs : List X) → map f xs ≡ [] → xs ≡ []

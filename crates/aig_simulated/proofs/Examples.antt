@@ -1,32 +1,20 @@
 -- Turns of conditions, the questions of a small witness circuit and what errors say, computed; and
 -- wrong answers, of which the definitions are false.
-use Rattle.aig_base.proofs.Words.{◌≡◌, ◌≢◌, ℕ, ◌*◌, ◌<◌, ◌≤◌, ◌∙◌, Bool, true, false, codes, None, Option, Some, Ok, Err, List, [], ◌∷◌, length, slice_index_or, refl, ap, subst, arith, empty}
-use Rattle.aig_circuit.specs.declared.edge.AigEdge.{AigEdge}
+use Rattle.aig_simulated.proofs.Words.{◌≡◌, ◌≢◌, ℕ, ◌*◌, ◌<◌, ◌≤◌, ◌∙◌, Bool, true, false, codes, None, Option, Some, Ok, Err, List, [], ◌∷◌, length, slice_index_or, refl, ap, subst, arith, empty, AigEdge, edge_to, no_properties, File, circuit_of, node_in, circuit_with_resets, Accepted, Refused, model_leaf, question_of, IsFor, Condition, Transition, Property, Base, Step, Claim, ConditionError, Certifies, Claims, IsNoQuestion, IsOfObligation, IsQuestionOf, LeavesProof, Obliges, Proofs, TellsOfQuestion, first_verdict, proof_for, proofs_of, refusal_of}
 use Rattle.aig_circuit.specs.declared.node.AigNodeType.{AigNodeType}
 use Rattle.aig_circuit.specs.declared.node.AigNodeType.TheVariants.{False, Leaf}
 use Rattle.aig_circuit.specs.declared.node.AigNode.{AigNode}
-use Rattle.aig_circuit.proofs.Words.{Circuit, edge_to, no_properties}
+use Rattle.aig_circuit.proofs.Words.{Circuit}
 use Rattle.aig_format.specs.declared.FileKind.TheVariants.{Text}
-use Rattle.aig_format.proofs.Words.{File, circuit_of}
 use Rattle.aig_format.specs.Text.{value_of}
 use Rattle.aig_format.specs.Numbering.{node_of_variable, variables_in_order}
-use Rattle.aig_reader.specs.Reading.{node_in}
-use Rattle.aig_reader.specs.Resets.{circuit_with_resets}
-use Rattle.aig_reader.specs.Verdicts.{Accepted, Refused}
 use Rattle.aig_reader.specs.declared.error.ReadError.TheVariants as read
 use Rattle.aig_refutation.specs.declared.error.RefutationError.{RefutationError}
 use Rattle.aig_refutation.specs.declared.error.RefutationError.TheVariants as refutation
-use Rattle.aig_simulation.specs.Exact.{model_leaf, question_of}
-use Rattle.aig_simulation.specs.Named.{IsFor}
 use Rattle.aig_simulation.proofs.Alike.{same_digits}
-use Rattle.aig_simulation.specs.declared.condition.Condition.{Condition}
-use Rattle.aig_simulation.specs.declared.condition.Condition.TheVariants.{Transition, Property, Base, Step}
 use Rattle.aig_simulation.specs.declared.error.QuestionError.TheVariants as questions
-use Rattle.aig_simulated.specs.declared.claim.Claim.{Claim}
-use Rattle.aig_simulated.specs.declared.error.ConditionError.{ConditionError}
 use Rattle.aig_simulated.specs.declared.error.ConditionError.TheVariants as conditions
 use Rattle.aig_simulated.specs.declared.error.SimulationError.TheVariants as errors
-use Rattle.aig_simulated.specs.Simulated.{Certifies, Claims, IsNoQuestion, IsOfObligation, IsQuestionOf, LeavesProof, Obliges, Proofs, TellsOfQuestion, first_verdict, proof_for, proofs_of, refusal_of}
 
 -- ---- errors
 

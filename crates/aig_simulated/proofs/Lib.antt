@@ -1,3 +1,4 @@
+mod Words
 pub mod Examples
 pub mod Telling
 pub mod Turns

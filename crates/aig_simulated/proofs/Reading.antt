@@ -1,13 +1,8 @@
 -- What a call that reads a file and a witness circuit tells, by parts, and from what another told.
-use Rattle.aig_base.proofs.Words.{◌≡◌, ℕ, Bool, false, List, None, Option, Result, sym, subst, ◌∙◌, IfErr, IfSome, IsAtEnd}
+use Rattle.aig_simulated.proofs.Words.{◌≡◌, ℕ, Bool, false, List, None, Option, Result, sym, subst, ◌∙◌, IfErr, IfSome, IsAtEnd, File, Accepts, IsNumberedOf, IsReadAs, AcceptsWithResets, AreListsWithResets, SaysWhy, Accepted, Judges, Verdict, verdict_by, ReadsWitness, refusal_by}
 use Rattle.aig_circuit.specs.declared.view.CircuitLists.{CircuitLists}
-use Rattle.aig_format.proofs.Words.{File, Accepts}
-use Rattle.aig_reader.specs.Reading.{IsNumberedOf, IsReadAs}
-use Rattle.aig_reader.specs.Resets.{AcceptsWithResets, AreListsWithResets, SaysWhy}
-use Rattle.aig_reader.specs.Verdicts.{Accepted, Judges, Verdict, verdict_by}
 use Rattle.aig_reader.specs.declared.error.ReadError.{ReadError}
 use Rattle.aig_reader.specs.declared.variable_nodes.NumberedLists.{NumberedLists}
-use Rattle.aig_simulated.specs.Witnesses.{ReadsWitness, refusal_by}
 
 module _ {R S : Type 0} (left : R → Option (List ℕ)) (failed : R → Bool)
     (left_of : S → Option (List ℕ)) (failed_of : S → Bool) (limit : ℕ) (r : R) (s : S) (rest : R)

@@ -1,30 +1,13 @@
 -- What answers about the conditions of a claim tell of the two files.
-use Rattle.aig_base.proofs.Words.{◌≡◌, ℕ, ◌≤◌, Bool, List, None, Option, Result, Ok, Err, refl, sym, ap, subst, ◌∙◌, IfErr, fun_ext}
-use Rattle.aig_answers.specs.Answers.{IsCircuitQuery, query_with}
+use Rattle.aig_simulated.proofs.Words.{◌≡◌, ℕ, ◌≤◌, Bool, List, None, Option, Result, Ok, Err, refl, sym, ap, subst, ◌∙◌, IfErr, fun_ext, IsCircuitQuery, query_with, Circuit, IsCircuit, lists_circuit, Accepts, File, Fits, circuit_of, AreListsOf, node_in, AreListsWithResets, circuit_with_resets, Accepted, verdict_by, Shares, model_leaf, question_of, IsCertificate, Sharing, Condition, Reset, Transition, Property, Base, Step, Claim, SimulationError, ChecksClaim, HoldsIn, IsAsked, Certifies, Claims, IsClaim, IsNoQuestion, IsObligation, IsOfClaim, IsOfObligation, IsOwn, IsQuestionOf, Obliges, Proofs, first_verdict, proof_for, question_in, refusal_of, refusal_by}
 use Rattle.aig_answers.specs.declared.windows.WindowClauses.{WindowClauses}
-use Rattle.aig_circuit.specs.Circuit.{Circuit, IsCircuit}
-use Rattle.aig_circuit.specs.View.{lists_circuit}
-use Rattle.aig_format.proofs.Words.{Accepts, File, Fits, circuit_of}
-use Rattle.aig_reader.specs.Reading.{AreListsOf, node_in}
-use Rattle.aig_reader.specs.Resets.{AreListsWithResets, circuit_with_resets}
-use Rattle.aig_reader.specs.Verdicts.{Accepted, verdict_by}
 use Rattle.aig_runs.specs.Queries.{IsSafeTo}
 use Rattle.aig_runs.specs.Safety.{IsCircuitSafeAt, IsSafeAt}
 use Rattle.aig_runs.specs.Unrolled.{UnrolledCircuit}
-use Rattle.aig_simulation.specs.Named.{Shares}
-use Rattle.aig_simulation.specs.Exact.{model_leaf, question_of}
-use Rattle.aig_simulation.specs.Simulation.{IsCertificate, Sharing}
-use Rattle.aig_simulation.specs.declared.condition.Condition.{Condition}
-use Rattle.aig_simulation.specs.declared.condition.Condition.TheVariants.{Reset, Transition, Property, Base, Step}
 use Rattle.aig_simulation.specs.declared.error.QuestionError.{QuestionError}
-use Rattle.aig_simulated.specs.declared.claim.Claim.{Claim}
 use Rattle.aig_simulated.specs.declared.error.ConditionError.TheVariants as conditions
-use Rattle.aig_simulated.specs.declared.error.SimulationError.{SimulationError}
 use Rattle.aig_simulated.specs.declared.error.SimulationError.TheVariants as errors
 use Rattle.aig_simulated.specs.declared.obligation.Obligation.{Obligation}
-use Rattle.aig_simulated.specs.Conditions.{ChecksClaim, HoldsIn, IsAsked}
-use Rattle.aig_simulated.specs.Simulated.{Certifies, Claims, IsClaim, IsNoQuestion, IsObligation, IsOfClaim, IsOfObligation, IsOwn, IsQuestionOf, Obliges, Proofs, first_verdict, proof_for, question_in, refusal_of}
-use Rattle.aig_simulated.specs.Witnesses.{refusal_by}
 
 -- ---- the conditions
 

@@ -1,15 +1,8 @@
 -- The conditions in turn, up to one that isn't shown.
-use Rattle.aig_base.proofs.Words.{◌≡◌, ℕ, ◌<◌, ◌≤◌, Bool, IsErrOf, IsTrue, List, OnOk, Option, Result, Ok, Err, sym, ap, subst, ◌∙◌, arith}
+use Rattle.aig_simulated.proofs.Words.{◌≡◌, ℕ, ◌<◌, ◌≤◌, Bool, IsErrOf, IsTrue, List, OnOk, Option, Result, Ok, Err, sym, ap, subst, ◌∙◌, arith, Condition, Reset, Transition, Property, Base, Step, Claim, ConditionError, SimulationError, ChecksClaim, HoldsIn, TellsAt, LeavesProof, Proofs, TellsOfQuestion, proof_for, question_in, turn_of}
 use Rattle.aig_refutation.specs.declared.error.RefutationError.TheVariants as refutation
-use Rattle.aig_simulation.specs.declared.condition.Condition.{Condition}
-use Rattle.aig_simulation.specs.declared.condition.Condition.TheVariants.{Reset, Transition, Property, Base, Step}
-use Rattle.aig_simulated.specs.declared.claim.Claim.{Claim}
-use Rattle.aig_simulated.specs.declared.error.ConditionError.{ConditionError}
 use Rattle.aig_simulated.specs.declared.error.ConditionError.TheVariants as conditions
-use Rattle.aig_simulated.specs.declared.error.SimulationError.{SimulationError}
 use Rattle.aig_simulated.specs.declared.error.SimulationError.TheVariants as errors
-use Rattle.aig_simulated.specs.Conditions.{ChecksClaim, HoldsIn, TellsAt}
-use Rattle.aig_simulated.specs.Simulated.{LeavesProof, Proofs, TellsOfQuestion, proof_for, question_in, turn_of}
 
 -- what holds of each holds of all
 pub of_each : (P : Condition → Type 0) → P Reset → P Transition → P Property → P Base → P Step

@@ -1,11 +1,4 @@
-use Rattle.aig_base.proofs.Words.{◌≡◌, ◌-◌, ◌*◌, ◌<◌, ◌^◌, List, length, take, drop, sym, ap, ap₂, subst, ◌∙◌, arith, length-drop, take_all, All-drop, All-same, All-take}
-use Rattle.aig_base.specs.Clauses.{AreBelow}
-use Rattle.aig_circuit.specs.declared.edge.AigEdge.{AigEdge}
-use Rattle.aig_runs.proofs.Below.{edges_there, latchs_there, query_below}
-use Rattle.aig_circuit.specs.declared.node.AigLatch.{AigLatch}
-use Rattle.aig_runs.specs.CircuitQueries.{AsksOfCircuit}
-use Rattle.aig_runs.specs.Queries.{asking_clauses, IsThere, query_clauses}
-use Rattle.aig_encode.proofs.Bads.{bads_room}
+use Rattle.aig_answers.proofs.Words.{◌≡◌, ◌-◌, ◌*◌, ◌<◌, ◌^◌, List, length, take, drop, sym, ap, ap₂, subst, ◌∙◌, arith, length-drop, take_all, All-drop, All-same, All-take, AreBelow, AigEdge, edges_there, latchs_there, query_below, AigLatch, AsksOfCircuit, asking_clauses, IsThere, query_clauses, bads_room}
 use Rattle.aig_answers.proofs.circuits.make_query.Goals as goal
 
 pub cnf-requires : goal.cnf-requires

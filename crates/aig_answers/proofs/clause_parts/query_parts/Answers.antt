@@ -1,8 +1,5 @@
 use Rattle.std.proofs.Common.{sym, subst}
-use Rattle.aig_base.specs.Clauses.{AreBelow}
-use Rattle.aig_circuit.specs.Circuit.{Circuit}
-use Rattle.aig_cnf.specs.Cnf.{AreNeeded}
-use Rattle.aig_runs.specs.CircuitQueries.{AsksOfCircuit}
+use Rattle.aig_answers.proofs.Words.{AreBelow, Circuit, AreNeeded, AsksOfCircuit}
 use Rattle.aig_answers.proofs.clause_parts.query_parts.Goals as goal
 
 pub returns-clause-written : goal.returns-clause-written

@@ -1,7 +1,4 @@
-use Rattle.aig_base.proofs.Words.{◌≡◌, ◌+◌, length, sym, subst, ◌∙◌, append-nil, arith}
-use Rattle.aig_base.specs.Clauses.{AreBelow}
-use Rattle.aig_runs.specs.WindowClauses.{AsksWindow, induction_clauses}
-use Rattle.aig_runs.specs.declared.window.Window.TheVariants.{Plain}
+use Rattle.aig_answers.proofs.Words.{◌≡◌, ◌+◌, length, sym, subst, ◌∙◌, append-nil, arith, AreBelow, AsksWindow, induction_clauses, Plain}
 use Rattle.aig_answers.proofs.Asking.{asked_of, below_of}
 use Rattle.aig_answers.proofs.clause_parts.window_parts.Goals as goal
 

@@ -1,5 +1,4 @@
-use Rattle.aig_base.proofs.Words.{◌≡◌, ◌+◌, ◌*◌, length, sym, ap, ◌∙◌, arith, add-mul}
-use Rattle.aig_runs.proofs.Below.{bads_count}
+use Rattle.aig_answers.proofs.Words.{◌≡◌, ◌+◌, ◌*◌, length, sym, ap, ◌∙◌, arith, add-mul, bads_count}
 use Rattle.aig_answers.proofs.clauses.induction_between.Goals as goal
 
 pub overflow_mul-first : goal.overflow_mul-first

@@ -1,5 +1,4 @@
-use Rattle.aig_base.proofs.Words.{◌<◌, ◌^◌, All-drop, All-take}
-use Rattle.aig_circuit.specs.declared.edge.AigEdge.{AigEdge}
+use Rattle.aig_answers.proofs.Words.{◌<◌, ◌^◌, All-drop, All-take, AigEdge}
 use Rattle.aig_answers.proofs.clauses.induction_over.Goals as goal
 
 pub push_inverses-requires : goal.push_inverses-requires

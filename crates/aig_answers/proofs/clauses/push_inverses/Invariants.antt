@@ -1,6 +1,5 @@
 use Rattle.std.proofs.Common.{◌≡◌, ◌++◌, map, take}
-use Rattle.aig_circuit.specs.Edge.{inverse}
-use Rattle.aig_runs.specs.Queries.{unit_clauses}
+use Rattle.aig_answers.proofs.Words.{inverse, unit_clauses}
 use Rattle.aig_answers.proofs.clauses.push_inverses.Given as goal
 
 abbrev pub invariant-loop-edge : goal.invariant-loop-edge

@@ -1,6 +1,4 @@
-use Rattle.aig_base.proofs.Words.{◌≡◌, suc, ◌+◌, ◌*◌, ◌<◌, ◌≤◌, ◌^◌, ◌++◌, refl, ap, sym, ◌∙◌, arith, add-mul, mul-le-mul_right, All-drop, All-same, All-take}
-use Rattle.aig_circuit.specs.declared.edge.AigEdge.{AigEdge}
-use Rattle.aig_runs.specs.WindowClauses.{apart_clauses, pair_clauses, state_at}
+use Rattle.aig_answers.proofs.Words.{◌≡◌, suc, ◌+◌, ◌*◌, ◌<◌, ◌≤◌, ◌^◌, ◌++◌, refl, ap, sym, ◌∙◌, arith, add-mul, mul-le-mul_right, All-drop, All-same, All-take, AigEdge, apart_clauses, pair_clauses, state_at}
 use Rattle.aig_answers.proofs.Asking.{pair_cut}
 use Rattle.aig_answers.proofs.Growing.{more_step}
 use Rattle.aig_answers.proofs.distinct.push_apart.Goals as goal

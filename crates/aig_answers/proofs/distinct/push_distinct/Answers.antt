@@ -1,5 +1,4 @@
-use Rattle.aig_base.proofs.Words.{◌≡◌, suc, ◌+◌, ◌*◌, ◌≤◌, ◌++◌, sym, ap, ◌∙◌, arith, add-mul, mul-le-mul_right}
-use Rattle.aig_runs.specs.WindowClauses.{apart_clauses, count_pairs, pairwise_clauses}
+use Rattle.aig_answers.proofs.Words.{◌≡◌, suc, ◌+◌, ◌*◌, ◌≤◌, ◌++◌, sym, ap, ◌∙◌, arith, add-mul, mul-le-mul_right, apart_clauses, count_pairs, pairwise_clauses}
 use Rattle.aig_answers.proofs.Growing.{more_step}
 use Rattle.aig_answers.proofs.Pairs.{pairs_next, some_latches}
 use Rattle.aig_answers.proofs.distinct.push_distinct.Goals as goal

@@ -1,5 +1,4 @@
-use Rattle.aig_base.proofs.Words.{◌≡◌, ◌<◌, ◌^◌, [], ◌∷◌, ◌++◌, length, refl, ap, ◌∙◌, arith, All-get_or, on_ok_weaker}
-use Rattle.aig_circuit.specs.declared.edge.AigEdge.{AigEdge}
+use Rattle.aig_answers.proofs.Words.{◌≡◌, ◌<◌, ◌^◌, [], ◌∷◌, ◌++◌, length, refl, ap, ◌∙◌, arith, All-get_or, on_ok_weaker, AigEdge}
 use Rattle.aig_answers.proofs.Growing.{difference_step, pair_done, variables_step}
 use Rattle.aig_answers.proofs.distinct.push_pair.Goals as goal
 

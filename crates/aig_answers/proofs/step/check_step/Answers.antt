@@ -1,12 +1,5 @@
-use Rattle.aig_base.proofs.Words.{◌≤◌, length, subst, sym, ◌∙◌}
-use Rattle.aig_circuit.specs.Circuit.{Circuit, IsCircuit}
-use Rattle.aig_circuit.specs.View.{lists_circuit}
-use Rattle.aig_format.proofs.Circuits.{IsCircuit-of_file}
+use Rattle.aig_answers.proofs.Words.{◌≤◌, length, subst, sym, ◌∙◌, Circuit, IsCircuit, lists_circuit, IsCircuit-of_file, verdict_by, IsCircuitSafeAt, IsSafeAt, IsSaidBy, TellsOfCircuit, TellsOfStep, verdict_of, joint_verdict}
 use Rattle.aig_format.proofs.Nodes.{few_nodes}
-use Rattle.aig_reader.specs.Verdicts.{verdict_by}
-use Rattle.aig_runs.specs.Safety.{IsCircuitSafeAt, IsSafeAt}
-use Rattle.aig_answers.specs.Answers.{IsSaidBy, TellsOfCircuit, TellsOfStep, verdict_of}
-use Rattle.aig_answers.specs.Certificates.{joint_verdict}
 use Rattle.aig_answers.proofs.Answering.{asked_file, ok_read, read_lists}
 use Rattle.aig_answers.proofs.Stepping.{step_told}
 use Rattle.aig_answers.proofs.Telling.{joint_alike}

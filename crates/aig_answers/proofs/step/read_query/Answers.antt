@@ -1,6 +1,4 @@
-use Rattle.aig_base.proofs.Words.{sym, ◌∙◌, arith, err_from_is_err_and}
-use Rattle.aig_reader.specs.Verdicts.{Accepted, Short}
-use Rattle.aig_answers.specs.Answers.{verdict_of}
+use Rattle.aig_answers.proofs.Words.{sym, ◌∙◌, arith, err_from_is_err_and, Accepted, Short, verdict_of}
 use Rattle.aig_answers.proofs.Answering.{query_answers}
 use Rattle.aig_answers.proofs.Verdicts.{asked_judged, asked_unread, asks_alike, circuit_said, read_unrolled}
 use Rattle.aig_answers.proofs.step.read_query.Goals as goal

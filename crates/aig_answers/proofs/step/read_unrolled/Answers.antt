@@ -1,10 +1,4 @@
-use Rattle.aig_base.proofs.Words.{Ok, ap, sym, subst, ◌∙◌, err_from_is_err_and}
-use Rattle.aig_reader.specs.Verdicts.{Accepted, Short}
-use Rattle.aig_circuit.specs.Circuit.{IsCircuit}
-use Rattle.aig_circuit.specs.View.{lists_circuit}
-use Rattle.aig_format.proofs.Circuits.{IsCircuit-of_file}
-use Rattle.aig_answers.specs.Answers.{verdict_of}
-use Rattle.aig_answers.specs.CircuitVerdicts.{circuit_verdict}
+use Rattle.aig_answers.proofs.Words.{Ok, ap, sym, subst, ◌∙◌, err_from_is_err_and, Accepted, Short, IsCircuit, lists_circuit, IsCircuit-of_file, verdict_of, circuit_verdict}
 use Rattle.aig_answers.proofs.Answering.{circuit_answers, read_lists}
 use Rattle.aig_answers.proofs.Verdicts.{asked_judged, asked_unread, asks_alike, circuit_said}
 use Rattle.aig_answers.proofs.step.read_unrolled.Goals as goal

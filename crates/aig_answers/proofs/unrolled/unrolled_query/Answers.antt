@@ -1,5 +1,4 @@
-use Rattle.aig_base.proofs.Words.{◌≤◌, ◌^◌, length, subst, sym}
-use Rattle.aig_circuit.specs.Circuit.{Circuit}
+use Rattle.aig_answers.proofs.Words.{◌≤◌, ◌^◌, length, subst, sym, Circuit}
 use Rattle.aig_answers.proofs.unrolled.unrolled_query.Goals as goal
 
 pub query_between-requires-clause-few : goal.query_between-requires-clause-few

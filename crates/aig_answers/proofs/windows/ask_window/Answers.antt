@@ -1,6 +1,4 @@
-use Rattle.aig_base.proofs.Words.{sym, ap, ◌∙◌, arith, err_from_is_err_and}
-use Rattle.aig_circuit.specs.View.{lists_circuit}
-use Rattle.aig_answers.specs.Answers.{circuit_window_verdict, verdict_of}
+use Rattle.aig_answers.proofs.Words.{sym, ap, ◌∙◌, arith, err_from_is_err_and, lists_circuit, circuit_window_verdict, verdict_of}
 use Rattle.aig_answers.proofs.TellingSafe.{room_said}
 use Rattle.aig_answers.proofs.Verdicts.{window_room}
 use Rattle.aig_answers.proofs.windows.ask_window.Goals as goal

@@ -1,10 +1,4 @@
-use Rattle.aig_base.proofs.Words.{◌+◌, ap, err_from_is_err_and, subst, sym, ◌∙◌}
-use Rattle.aig_circuit.specs.Circuit.{IsCircuit}
-use Rattle.aig_circuit.specs.View.{lists_circuit}
-use Rattle.aig_format.proofs.Circuits.{IsCircuit-of_file}
-use Rattle.aig_runs.specs.Induction.{IsKInductive}
-use Rattle.aig_answers.specs.Answers.{TellsOfCircuitWindow, TellsOfWindow, circuit_window_verdict, verdict_of, window_verdict, without_names}
-use Rattle.aig_answers.specs.PlanWords.{answer_of}
+use Rattle.aig_answers.proofs.Words.{◌+◌, ap, err_from_is_err_and, subst, sym, ◌∙◌, IsCircuit, lists_circuit, IsCircuit-of_file, IsKInductive, TellsOfCircuitWindow, TellsOfWindow, circuit_window_verdict, verdict_of, window_verdict, without_names, answer_of}
 use Rattle.aig_answers.proofs.Answering.{asked_file, read_lists}
 use Rattle.aig_answers.proofs.TellingSafe.{room_said}
 use Rattle.aig_answers.proofs.Verdicts.{judged, read_unrolled, window_alike, window_of_file}

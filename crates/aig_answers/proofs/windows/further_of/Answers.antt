@@ -1,7 +1,5 @@
 use Rattle.std.proofs.Common.{◌+◌, ◌*◌, ◌++◌, length, sym, ap, subst, ◌∙◌}
-use Rattle.aig_circuit.specs.Circuit.{Circuit}
-use Rattle.aig_unroll.specs.Unroll.{UnrollsTo}
-use Rattle.aig_runs.specs.WindowClauses.{states_clauses}
+use Rattle.aig_answers.proofs.Words.{Circuit, UnrollsTo, states_clauses}
 use Rattle.aig_answers.proofs.Asking.{states_count}
 use Rattle.aig_answers.proofs.windows.further_of.Goals as goal
 

@@ -1,7 +1,5 @@
-use Rattle.aig_base.proofs.Words.{ℕ, false, [], ◌∷◌, ◌++◌, ◌∙◌, ap, ap₂, arith, map, map_more, map_push, sym, take, take_all}
-use Rattle.aig_circuit.specs.Circuit.{latch_leaves}
+use Rattle.aig_answers.proofs.Words.{ℕ, false, [], ◌∷◌, ◌++◌, ◌∙◌, ap, ap₂, arith, map, map_more, map_push, sym, take, take_all, latch_leaves, AigLatch}
 use Rattle.aig_circuit.specs.Edge.{edge_to}
-use Rattle.aig_circuit.specs.declared.node.AigLatch.{AigLatch}
 use Rattle.aig_answers.proofs.windows.leaf_edges.Goals as goal
 
 pub loop-latch-preserved : goal.loop-latch-preserved

@@ -1,9 +1,4 @@
-use Rattle.aig_base.proofs.Words.{sym, subst, err_from_is_err_and}
-use Rattle.aig_circuit.specs.Circuit.{IsCircuit}
-use Rattle.aig_circuit.specs.View.{lists_circuit}
-use Rattle.aig_format.proofs.Circuits.{IsCircuit-of_file}
-use Rattle.aig_answers.specs.Answers.{circuit_window_verdict, verdict_of, window_verdict}
-use Rattle.aig_reader.specs.Verdicts.{verdict_by}
+use Rattle.aig_answers.proofs.Words.{sym, subst, err_from_is_err_and, IsCircuit, lists_circuit, IsCircuit-of_file, circuit_window_verdict, verdict_of, window_verdict, verdict_by}
 use Rattle.aig_answers.proofs.Answering.{read_lists, window_answers}
 use Rattle.aig_answers.proofs.Verdicts.{judged, unread, window_alike, window_of_file}
 use Rattle.aig_answers.proofs.windows.read_window.Goals as goal

@@ -1,9 +1,5 @@
 use Rattle.std.proofs.Common.{◌+◌, ◌≤◌, ◌^◌, length, sym, ap, subst, ◌∙◌, arith}
-use Rattle.aig_circuit.specs.Circuit.{Circuit, IsCircuit}
-use Rattle.aig_circuit.specs.View.{lists_circuit}
-use Rattle.aig_unroll.specs.Unroll.{UnrollsTo}
-use Rattle.aig_runs.specs.WindowClauses.{count_free, watched, window_clauses}
-use Rattle.aig_answers.specs.Answers.{window_size}
+use Rattle.aig_answers.proofs.Words.{Circuit, IsCircuit, lists_circuit, UnrollsTo, count_free, watched, window_clauses, window_size}
 use Rattle.aig_answers.proofs.Asking.{same_room, watched_circuit}
 use Rattle.aig_answers.proofs.windows.step_window.Goals as goal
 

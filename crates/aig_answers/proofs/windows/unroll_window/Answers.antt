@@ -1,10 +1,5 @@
 use Rattle.std.proofs.Common.{ℕ, ◌+◌, ◌≤◌, ◌^◌, ◌++◌, List, [], replicate, length, sym, ap, subst, arith}
-use Rattle.aig_base.specs.Clauses.{AreBelow}
-use Rattle.aig_base.specs.declared.logic.literal.Lit.{Lit}
-use Rattle.aig_circuit.specs.Circuit.{Circuit}
-use Rattle.aig_circuit.specs.View.{lists_circuit}
-use Rattle.aig_cnf.specs.Cnf.{AreNeeded, FixesRoots, HasClauses, NodeValuesSatisfy}
-use Rattle.aig_runs.specs.WindowClauses.{AsksWindow}
+use Rattle.aig_answers.proofs.Words.{AreBelow, Lit, Circuit, lists_circuit, AreNeeded, FixesRoots, HasClauses, NodeValuesSatisfy, AsksWindow}
 use Rattle.aig_answers.proofs.Asking.{asked_of, below_of}
 use Rattle.aig_answers.proofs.windows.unroll_window.Goals as goal
 

@@ -1,8 +1,5 @@
 use Rattle.std.proofs.Common.{ℕ, ◌++◌, [], length, replicate, sym, ap, subst, ◌∙◌, arith}
-use Rattle.aig_circuit.specs.Circuit.{Circuit}
-use Rattle.aig_circuit.specs.View.{lists_circuit}
-use Rattle.aig_cnf.specs.Cnf.{FixesRoots, HasClauses, NodeValuesSatisfy}
-use Rattle.aig_runs.specs.WindowClauses.{watched, window_clauses}
+use Rattle.aig_answers.proofs.Words.{Circuit, lists_circuit, FixesRoots, HasClauses, NodeValuesSatisfy, watched, window_clauses}
 use Rattle.aig_answers.proofs.Asking.{asks}
 use Rattle.aig_answers.proofs.windows.window_clauses.Goals as goal
 

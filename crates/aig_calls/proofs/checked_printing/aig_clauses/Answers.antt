@@ -1,7 +1,5 @@
 use Rattle.aig_check_commands.specs.declared.command.FileCommand.TheVariants as commands
-use Rattle.aig_tool_commands.specs.declared.tool.TheConstants.{LIMIT}
-use Rattle.aig_calls.specs.Calls.{RunsAlone}
-use Rattle.aig_calls.specs.Listings.{text_in}
+use Rattle.aig_calls.proofs.Words.{LIMIT, RunsAlone, text_in}
 use Rattle.aig_calls.proofs.Given.{at_step, on, printed}
 use Rattle.aig_calls.proofs.checked_printing.aig_clauses.Goals as goal
 

@@ -1,6 +1,4 @@
-use Rattle.aig_tool_commands.specs.declared.tool.TheConstants.{LIMIT}
-use Rattle.aig_calls.specs.Calls.{MakesQuestion}
-use Rattle.aig_calls.specs.Listings.{text_in}
+use Rattle.aig_calls.proofs.Words.{LIMIT, MakesQuestion, text_in}
 use Rattle.aig_calls.proofs.Given.{at_step, on, printed}
 use Rattle.aig_calls.proofs.edits.aig_question.Goals as goal
 

@@ -1,6 +1,4 @@
-use Rattle.aig_tool_commands.specs.declared.tool.TheConstants.{LIMIT}
-use Rattle.aig_calls.specs.Calls.{MakesEdit}
-use Rattle.aig_calls.specs.Listings.{text_in}
+use Rattle.aig_calls.proofs.Words.{LIMIT, MakesEdit, text_in}
 use Rattle.aig_calls.proofs.Given.{on, printed}
 use Rattle.aig_calls.proofs.edits.print_edit.Goals as goal
 

@@ -1,5 +1,4 @@
-use Rattle.aig_base.proofs.Words.{◌≡◌, [], ◌∷◌, ◌++◌, map, ap, ◌∙◌, arith, rules, take_all}
-use Rattle.aig_calls.specs.Numbers.{dimacs_number, edge_number}
+use Rattle.aig_calls.proofs.Words.{◌≡◌, [], ◌∷◌, ◌++◌, map, ap, ◌∙◌, arith, rules, take_all, dimacs_number, edge_number}
 use Rattle.aig_calls.proofs.Listing.{map_turn}
 use Rattle.aig_calls.proofs.mapping.push_bads.Goals as goal
 

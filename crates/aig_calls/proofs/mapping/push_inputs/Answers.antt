@@ -1,9 +1,5 @@
-use Rattle.aig_base.proofs.Words.{◌≡◌, ℕ, true, [], ◌∷◌, ◌++◌, get_or, map, ap, ◌∙◌, arith, rules, take_all, Contains-get_or}
-use Rattle.aig_base.specs.Clauses.{lit_to}
-use Rattle.aig_circuit.specs.Circuit.{Circuit}
-use Rattle.aig_unroll.specs.Places.{place_at}
+use Rattle.aig_calls.proofs.Words.{◌≡◌, ℕ, true, [], ◌∷◌, ◌++◌, get_or, map, ap, ◌∙◌, arith, rules, take_all, Contains-get_or, lit_to, Circuit, place_at, dimacs_number, variable_number}
 use Rattle.aig_unroll.proofs.Others.{inputs_are_others}
-use Rattle.aig_calls.specs.Numbers.{dimacs_number, variable_number}
 use Rattle.aig_calls.proofs.Listing.{map_turn}
 use Rattle.aig_calls.proofs.mapping.push_inputs.Goals as goal
 

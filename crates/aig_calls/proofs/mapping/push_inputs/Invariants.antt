@@ -1,6 +1,5 @@
 use Rattle.std.proofs.Common.{◌≡◌, ℕ, ◌++◌, map, take}
-use Rattle.aig_unroll.specs.Places.{place_at}
-use Rattle.aig_calls.specs.Numbers.{variable_number}
+use Rattle.aig_calls.proofs.Words.{place_at, variable_number}
 use Rattle.aig_calls.proofs.mapping.push_inputs.Given as goal
 
 abbrev pub invariant-loop-n : goal.invariant-loop-n

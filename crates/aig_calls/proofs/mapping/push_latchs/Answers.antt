@@ -1,7 +1,4 @@
-use Rattle.aig_base.proofs.Words.{◌≡◌, true, [], ◌∷◌, ◌++◌, map, sym, ap, ◌∙◌, arith, rules, map-map, take_all}
-use Rattle.aig_base.specs.Clauses.{lit_to}
-use Rattle.aig_circuit.specs.declared.node.AigLatch.{AigLatch}
-use Rattle.aig_calls.specs.Numbers.{dimacs_number, variable_number}
+use Rattle.aig_calls.proofs.Words.{◌≡◌, true, [], ◌∷◌, ◌++◌, map, sym, ap, ◌∙◌, arith, rules, map-map, take_all, lit_to, AigLatch, dimacs_number, variable_number}
 use Rattle.aig_calls.proofs.Listing.{map_turn}
 use Rattle.aig_calls.proofs.mapping.push_latchs.Goals as goal
 

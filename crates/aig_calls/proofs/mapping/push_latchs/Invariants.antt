@@ -1,6 +1,5 @@
 use Rattle.std.proofs.Common.{◌≡◌, ◌++◌, map, take}
-use Rattle.aig_circuit.specs.declared.node.AigLatch.{AigLatch}
-use Rattle.aig_calls.specs.Numbers.{variable_number}
+use Rattle.aig_calls.proofs.Words.{AigLatch, variable_number}
 use Rattle.aig_calls.proofs.mapping.push_latchs.Given as goal
 
 abbrev pub invariant-loop-latch : goal.invariant-loop-latch

@@ -1,7 +1,4 @@
-use Rattle.aig_base.proofs.Words.{◌<◌, ◌-◌, ◌^◌, arith, All-drop, All-same, All-take, All-weaker}
-use Rattle.aig_circuit.specs.declared.edge.AigEdge.{AigEdge}
-use Rattle.aig_circuit.specs.declared.node.AigLatch.{AigLatch}
-use Rattle.aig_circuit.specs.Circuit.{IsInRange, IsLatch}
+use Rattle.aig_calls.proofs.Words.{◌<◌, ◌-◌, ◌^◌, arith, All-drop, All-same, All-take, All-weaker, AigEdge, AigLatch, IsInRange, IsLatch}
 use Rattle.aig_calls.proofs.Placing.{bads_room, leaf_below, place_below}
 use Rattle.aig_calls.proofs.mapping.push_map.Goals as goal
 

@@ -1,5 +1,4 @@
-use Rattle.aig_base.proofs.Words.{◌≡◌, ◌+◌, ◌++◌, take, flat_map, range_with_len}
-use Rattle.aig_calls.specs.Numbers.{input_numbers}
+use Rattle.aig_calls.proofs.Words.{◌≡◌, ◌+◌, ◌++◌, take, flat_map, range_with_len, input_numbers}
 use Rattle.aig_calls.proofs.mapping.push_steps.Given as goal
 
 abbrev pub invariant-loop-t : goal.invariant-loop-t

@@ -1,6 +1,4 @@
-use Rattle.aig_base.proofs.Words.{◌≡◌, [], ◌∷◌, ◌++◌, map, ap, ◌∙◌, append_assoc, arith, rules, take_all}
-use Rattle.std.specs.Prelude.{pos}
-use Rattle.aig_calls.specs.Numbers.{dimacs_number}
+use Rattle.aig_calls.proofs.Words.{◌≡◌, [], ◌∷◌, ◌++◌, map, ap, ◌∙◌, append_assoc, arith, rules, take_all, pos, dimacs_number}
 use Rattle.aig_calls.proofs.Listing.{map_turn}
 use Rattle.aig_calls.proofs.numbers.push_clause.Goals as goal
 

@@ -1,6 +1,4 @@
-use Rattle.aig_base.proofs.Words.{◌<◌, ◌-◌, ◌^◌, length, arith, All, get_or_from_slice_get}
-use Rattle.aig_base.specs.Clauses.{variable_of}
-use Rattle.aig_calls.specs.Numbers.{clause_numbers}
+use Rattle.aig_calls.proofs.Words.{◌<◌, ◌-◌, ◌^◌, length, arith, All, get_or_from_slice_get, variable_of, clause_numbers}
 use Rattle.aig_calls.proofs.Listing.{at_place, turn}
 use Rattle.aig_calls.proofs.numbers.push_list.Goals as goal
 

@@ -1,6 +1,4 @@
-use Rattle.aig_base.proofs.Words.{◌<◌, ◌-◌, ◌^◌, length, arith, flat_map, get_or_from_slice_get}
-use Rattle.aig_base.specs.Clauses.{AreBelow}
-use Rattle.aig_calls.specs.Numbers.{clause_numbers}
+use Rattle.aig_calls.proofs.Words.{◌<◌, ◌-◌, ◌^◌, length, arith, flat_map, get_or_from_slice_get, AreBelow, clause_numbers}
 use Rattle.aig_calls.proofs.Listing.{at_place, below_more, turn}
 use Rattle.aig_calls.proofs.numbers.push_lists.Goals as goal
 

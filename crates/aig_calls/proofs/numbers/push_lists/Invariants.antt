@@ -1,5 +1,4 @@
-use Rattle.aig_base.proofs.Words.{◌≡◌, ◌++◌, take, flat_map}
-use Rattle.aig_calls.specs.Numbers.{clause_numbers}
+use Rattle.aig_calls.proofs.Words.{◌≡◌, ◌++◌, take, flat_map, clause_numbers}
 use Rattle.aig_calls.proofs.numbers.push_lists.Given as goal
 
 abbrev pub invariant-loop-v : goal.invariant-loop-v

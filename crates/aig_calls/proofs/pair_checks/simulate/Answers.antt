@@ -1,9 +1,5 @@
-use Rattle.aig_base.proofs.Words.{List, Option, subst, ℕ}
-use Rattle.aig_simulated.specs.Simulated.{Certifies, IsOwn, first_verdict, refusal_of}
+use Rattle.aig_calls.proofs.Words.{List, Option, subst, ℕ, Certifies, IsOwn, first_verdict, refusal_of, Condition, bytes_of, has_failed, LIMIT}
 use Rattle.aig_simulated.specs.Witnesses.{ReadsWitness}
-use Rattle.aig_simulation.specs.declared.condition.Condition.{Condition}
-use Rattle.aig_calls.specs.Memory.{bytes_of, has_failed}
-use Rattle.aig_tool_commands.specs.declared.tool.TheConstants.{LIMIT}
 use Rattle.aig_calls.proofs.Given.{on, texts_of}
 use Rattle.aig_calls.proofs.pair_checks.simulate.Goals as goal
 

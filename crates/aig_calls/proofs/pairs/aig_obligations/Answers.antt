@@ -1,7 +1,5 @@
 use Rattle.aig_check_commands.specs.declared.command.PairCommand.TheVariants as commands
-use Rattle.aig_tool_commands.specs.declared.tool.TheConstants.{LIMIT}
-use Rattle.aig_calls.specs.Calls.{RunsOnPair}
-use Rattle.aig_calls.specs.Listings.{text_in}
+use Rattle.aig_calls.proofs.Words.{LIMIT, RunsOnPair, text_in}
 use Rattle.aig_calls.proofs.Given.{on, printed}
 use Rattle.aig_calls.proofs.pairs.aig_obligations.Goals as goal
 

@@ -1,7 +1,5 @@
-use Rattle.aig_base.proofs.Words.{◌≡◌, [], ◌∷◌, ◌++◌, map, refl, subst, sym, ◌∙◌, same_Some}
-use Rattle.std.specs.Prelude.{Result, string_bytes}
-use Rattle.aig_command_line.specs.Ending.{WritesLine, ended}
-use Rattle.aig_check_commands.specs.declared.error.CheckError.{CheckError}
+use Rattle.aig_check_commands.proofs.Words.{◌≡◌, [], ◌∷◌, ◌++◌, map, refl, subst, sym, ◌∙◌, same_Some, Result, WritesLine, ended, CheckError}
+use Rattle.std.specs.Prelude.{string_bytes}
 use Rattle.aig_check_commands.specs.Help.{answer_of}
 use Rattle.aig_check_commands.proofs.Calling.{never_none, no_command, one_call}
 use Rattle.aig_check_commands.specs.declared.error.CheckError.TheVariants as errors

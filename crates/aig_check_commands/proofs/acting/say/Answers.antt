@@ -1,5 +1,4 @@
-use Rattle.aig_base.proofs.Words.{[], ◌∷◌, ◌++◌, err_from_is_err_and}
-use Rattle.aig_command_line.proofs.Kept.{said_unflushed}
+use Rattle.aig_check_commands.proofs.Words.{[], ◌∷◌, ◌++◌, err_from_is_err_and, said_unflushed}
 use Rattle.aig_check_commands.specs.declared.error.CheckError.TheVariants as errors
 use Rattle.aig_check_commands.proofs.acting.say.Goals as goal
 

@@ -1,7 +1,5 @@
-use Rattle.aig_base.proofs.Words.{◌≡◌, ◌+◌, ◌<◌, ◌++◌, ◌∷◌, [], ap, length, length-append, arith, rules, zip}
-use Rattle.std.proofs.lemmas.Slice.Zip.{length-zip, zip_end, zip_turn}
-use Rattle.aig_output.proofs.Putting.{Buffers-turn, all_done, failed_turn}
-use Rattle.aig_check_commands.specs.Bounded.{place_line}
+use Rattle.aig_check_commands.proofs.Words.{◌≡◌, ◌+◌, ◌<◌, ◌++◌, ◌∷◌, [], ap, length, length-append, arith, zip, length-zip, zip_end, zip_turn, Buffers-turn, all_done, failed_turn, place_line}
+use Rattle.aig_base.proofs.Words.{rules}
 use Rattle.aig_check_commands.proofs.Commenting.{get_or-pair}
 use Rattle.aig_check_commands.proofs.bounded.buffer_places.Goals as goal
 

@@ -1,6 +1,4 @@
-use Rattle.aig_base.proofs.Words.{length, take, flat_map, zip}
-use Rattle.aig_output.specs.Sinks.{Buffers}
-use Rattle.aig_check_commands.specs.Bounded.{place_line}
+use Rattle.aig_check_commands.proofs.Words.{length, take, flat_map, zip, Buffers, place_line}
 use Rattle.aig_check_commands.proofs.bounded.buffer_places.Given as goal
 
 abbrev pub invariant-loop-n : goal.invariant-loop-n

@@ -1,10 +1,7 @@
-use Rattle.aig_base.proofs.Words.{◌++◌, length, refl, ap, sym, ◌∙◌, err_from_is_err_and}
-use Rattle.aig_base.specs.Formula.{clauses_in}
+use Rattle.aig_check_commands.proofs.Words.{◌++◌, length, refl, ap, sym, ◌∙◌, err_from_is_err_and, clauses_in, Bounded, title_of}
 use Rattle.aig_dimacs.specs.Text.{dimacs_of}
 use Rattle.aig_check_commands.specs.Titles.{title_text}
-use Rattle.aig_check_commands.specs.declared.titles.title.Question.TheVariants.{Bounded}
 use Rattle.aig_check_commands.specs.Bounded.{bounded_comments}
-use Rattle.aig_check_commands.specs.Titling.{title_of}
 use Rattle.aig_check_commands.proofs.Commenting.{bounded_again}
 use Rattle.aig_check_commands.proofs.Outcomes.{answer_ends, question_refused, read_again, summed}
 use Rattle.aig_check_commands.proofs.Placing.{inputs_few}

@@ -1,5 +1,4 @@
-use Rattle.std.proofs.Common.{rules}
-use Rattle.aig_output.proofs.Putting.{Stops-before, failed_put}
+use Rattle.aig_check_commands.proofs.Words.{rules, Stops-before, failed_put}
 use Rattle.aig_check_commands.specs.Titles.{title_text}
 use Rattle.aig_check_commands.specs.Bounded.{bounded_comments}
 use Rattle.aig_check_commands.proofs.Pairing.{then_written}

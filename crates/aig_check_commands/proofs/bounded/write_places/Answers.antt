@@ -1,5 +1,4 @@
-use Rattle.std.proofs.Common.{rules}
-use Rattle.aig_output.proofs.Putting.{failed_put, written_through}
+use Rattle.aig_check_commands.proofs.Words.{rules, failed_put, written_through}
 use Rattle.aig_check_commands.specs.Bounded.{bounded_comments}
 use Rattle.aig_check_commands.proofs.bounded.write_places.Goals as goal
 

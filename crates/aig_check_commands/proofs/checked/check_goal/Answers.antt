@@ -1,7 +1,4 @@
-use Rattle.aig_base.proofs.Words.{Err, Ok, ap, err_from_is_err_and, length, refl, subst, sym, ◌∙◌}
-use Rattle.aig_circuit.specs.View.{lists_circuit}
-use Rattle.aig_edits.proofs.ReadFiles.{file_on}
-use Rattle.aig_check_commands.specs.Checked.{ChecksWithin, IsMadeOwn, TellsOfGoal, made_verdict}
+use Rattle.aig_check_commands.proofs.Words.{Err, Ok, ap, err_from_is_err_and, length, refl, subst, sym, ◌∙◌, lists_circuit, file_on, ChecksWithin, IsMadeOwn, TellsOfGoal, made_verdict}
 use Rattle.aig_check_commands.specs.Goals.{line_of}
 use Rattle.aig_check_commands.specs.declared.error.CheckError.TheVariants as errors
 use Rattle.aig_check_commands.proofs.Showing.{Known, goal_shown, plan_asked, plan_length}

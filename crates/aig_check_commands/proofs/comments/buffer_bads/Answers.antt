@@ -1,8 +1,7 @@
-use Rattle.aig_base.proofs.Words.{arith, rules, false, enumerate_from, length-enumerate_from}
-use Rattle.aig_output.proofs.Putting.{Buffers-turn, all_done, failed_turn}
+use Rattle.aig_check_commands.proofs.Words.{arith, false, enumerate_from, length-enumerate_from, Buffers-turn, all_done, failed_turn, bad_line}
+use Rattle.aig_base.proofs.Words.{rules}
 use Rattle.aig_check_commands.proofs.Commenting.{line_at}
 use Rattle.aig_circuit.specs.Edge.{edge_to}
-use Rattle.aig_check_commands.specs.Comments.{bad_line}
 use Rattle.aig_check_commands.proofs.comments.buffer_bads.Goals as goal
 
 pub returns-in_err-buffer_literal : goal.returns-in_err-buffer_literal

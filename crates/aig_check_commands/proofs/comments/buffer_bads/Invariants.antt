@@ -1,6 +1,4 @@
-use Rattle.aig_base.proofs.Words.{take, enumerate_from, flat_map}
-use Rattle.aig_output.specs.Sinks.{Buffers}
-use Rattle.aig_check_commands.specs.Comments.{bad_line}
+use Rattle.aig_check_commands.proofs.Words.{take, enumerate_from, flat_map, Buffers, bad_line}
 use Rattle.aig_check_commands.proofs.comments.buffer_bads.Given as goal
 
 abbrev pub invariant-loop-i : goal.invariant-loop-i

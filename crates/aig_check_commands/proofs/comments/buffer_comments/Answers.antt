@@ -1,11 +1,8 @@
-use Rattle.aig_base.proofs.Words.{◌*◌, ◌<◌, ◌^◌, [], ◌∷◌, length, arith, rules, enumerate_from, flat_map, All-drop, All-weaker}
-use Rattle.aig_circuit.specs.declared.edge.AigEdge.{AigEdge}
+use Rattle.aig_check_commands.proofs.Words.{◌*◌, ◌<◌, ◌^◌, [], ◌∷◌, length, arith, enumerate_from, flat_map, All-drop, All-weaker, AigEdge, IsInRange, IsLatch, latch_leaves, last_bads, Buffers-trans, failed_among, failed_first, then_call, bad_line, latch_comment}
+use Rattle.aig_base.proofs.Words.{rules}
 use Rattle.aig_circuit.specs.declared.node.AigLatch.{AigLatch}
-use Rattle.aig_circuit.specs.Circuit.{IsInRange, IsLatch, latch_leaves}
-use Rattle.aig_runs.specs.Queries.{last_bads}
 use Rattle.aig_check_commands.proofs.Placing.{leaf_below}
-use Rattle.aig_output.proofs.Putting.{Buffers-trans, failed_among, failed_first, then_call}
-use Rattle.aig_check_commands.specs.Comments.{bad_line, comments_of, latch_comment}
+use Rattle.aig_check_commands.specs.Comments.{comments_of}
 use Rattle.aig_check_commands.proofs.comments.buffer_comments.Goals as goal
 
 pub buffer_latchs-requires : goal.buffer_latchs-requires

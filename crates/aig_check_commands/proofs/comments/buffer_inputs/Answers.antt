@@ -1,11 +1,9 @@
-use Rattle.aig_base.proofs.Words.{ℕ, List, Ok, ap, subst, ◌∙◌, arith, rules, enumerate_from, flat_map, length-enumerate_from, Contains-get_or}
-use Rattle.aig_circuit.specs.Circuit.{Circuit}
+use Rattle.aig_check_commands.proofs.Words.{ℕ, List, Ok, ap, subst, ◌∙◌, arith, enumerate_from, flat_map, length-enumerate_from, Contains-get_or, Circuit, BuffersOrStops, Buffers-turn, all_done, failed_turn, input_line}
+use Rattle.aig_base.proofs.Words.{rules}
 use Rattle.aig_base.specs.declared.stream.StreamFault.{StreamFault}
-use Rattle.aig_output.specs.Sinks.{BuffersOrStops}
-use Rattle.aig_output.proofs.Putting.{Buffers-turn, all_done, failed_turn}
 use Rattle.aig_check_commands.proofs.Commenting.{line_at}
 use Rattle.aig_unroll.proofs.Others.{inputs_are_others}
-use Rattle.aig_check_commands.specs.Comments.{input_line, input_lines}
+use Rattle.aig_check_commands.specs.Comments.{input_lines}
 use Rattle.aig_check_commands.proofs.comments.buffer_inputs.Goals as goal
 
 pub place-requires-clause-leaf : goal.place-requires-clause-leaf

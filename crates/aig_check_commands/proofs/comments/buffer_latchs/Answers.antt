@@ -1,10 +1,8 @@
-use Rattle.aig_base.proofs.Words.{arith, rules, enumerate_from, length-enumerate_from}
-use Rattle.aig_output.proofs.Putting.{Buffers-turn, all_done, failed_turn}
+use Rattle.aig_check_commands.proofs.Words.{arith, enumerate_from, length-enumerate_from, Buffers-turn, all_done, failed_turn, latch_leaves, latch_comment}
+use Rattle.aig_base.proofs.Words.{rules}
 use Rattle.aig_check_commands.proofs.Commenting.{line_at}
-use Rattle.aig_circuit.specs.Circuit.{latch_leaves}
 use Rattle.aig_circuit.proofs.Circuits.{leaf-read}
 use Rattle.aig_writer.proofs.Entries.{length-leaves}
-use Rattle.aig_check_commands.specs.Comments.{latch_comment}
 use Rattle.aig_check_commands.proofs.comments.buffer_latchs.Goals as goal
 
 pub returns-in_err-buffer_literal : goal.returns-in_err-buffer_literal

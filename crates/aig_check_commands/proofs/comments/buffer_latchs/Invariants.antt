@@ -1,7 +1,4 @@
-use Rattle.aig_base.proofs.Words.{take, enumerate_from, flat_map}
-use Rattle.aig_output.specs.Sinks.{Buffers}
-use Rattle.aig_circuit.specs.Circuit.{latch_leaves}
-use Rattle.aig_check_commands.specs.Comments.{latch_comment}
+use Rattle.aig_check_commands.proofs.Words.{take, enumerate_from, flat_map, Buffers, latch_leaves, latch_comment}
 use Rattle.aig_check_commands.proofs.comments.buffer_latchs.Given as goal
 
 abbrev pub invariant-loop-i : goal.invariant-loop-i

@@ -1,8 +1,5 @@
-use Rattle.std.proofs.Common.{[], ◌∷◌, ◌++◌, ◌+◌, decimal, rules}
-use Rattle.aig_base.proofs.Words.{codes}
-use Rattle.aig_base.specs.Clauses.{variable_of}
-use Rattle.aig_dimacs.specs.Text.{sign_of}
-use Rattle.aig_output.proofs.Putting.{Buffers-trans, failed_among, failed_first, then_call}
+use Rattle.aig_check_commands.proofs.Words.{decimal, rules, codes, variable_of, sign_of, Buffers-trans, failed_among, failed_first, then_call}
+use Rattle.std.proofs.Common.{[], ◌∷◌, ◌++◌, ◌+◌}
 use Rattle.aig_check_commands.specs.Comments.{literal_line}
 use Rattle.aig_check_commands.proofs.comments.buffer_literal.Goals as goal
 

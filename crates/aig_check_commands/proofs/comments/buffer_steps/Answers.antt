@@ -1,6 +1,5 @@
-use Rattle.aig_base.proofs.Words.{◌≡◌, ◌+◌, ◌<◌, ℕ, get_or, arith, rules, zero-add, ◌∙◌, range_with_len}
-use Rattle.std.proofs.lemmas.List.FromFn.{get_or-range_with_len, length-range_with_len}
-use Rattle.aig_output.proofs.Putting.{Buffers-turn, all_done, failed_turn}
+use Rattle.aig_check_commands.proofs.Words.{◌≡◌, ◌+◌, ◌<◌, ℕ, get_or, arith, ◌∙◌, range_with_len, get_or-range_with_len, length-range_with_len, Buffers-turn, all_done, failed_turn}
+use Rattle.aig_base.proofs.Words.{rules, zero-add}
 use Rattle.aig_check_commands.proofs.Placing.{place_below}
 use Rattle.aig_check_commands.specs.Comments.{input_lines}
 use Rattle.aig_check_commands.proofs.comments.buffer_steps.Goals as goal

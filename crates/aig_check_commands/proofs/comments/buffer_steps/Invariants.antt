@@ -1,5 +1,4 @@
-use Rattle.aig_base.proofs.Words.{◌+◌, take, flat_map, range_with_len}
-use Rattle.aig_output.specs.Sinks.{Buffers}
+use Rattle.aig_check_commands.proofs.Words.{◌+◌, take, flat_map, range_with_len, Buffers}
 use Rattle.aig_check_commands.specs.Comments.{input_lines}
 use Rattle.aig_check_commands.proofs.comments.buffer_steps.Given as goal
 

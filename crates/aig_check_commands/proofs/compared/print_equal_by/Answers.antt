@@ -1,5 +1,4 @@
-use Rattle.aig_base.proofs.Words.{err_from_is_err_and, refl}
-use Rattle.aig_check_commands.specs.Pairs.{always_line}
+use Rattle.aig_check_commands.proofs.Words.{err_from_is_err_and, refl, always_line}
 use Rattle.aig_check_commands.specs.declared.error.CheckError.TheVariants as errors
 use Rattle.aig_check_commands.proofs.Comparing.{compare_answered, compare_refused}
 use Rattle.aig_check_commands.proofs.Outcomes.{error_printed, text_printed}

@@ -1,6 +1,5 @@
-use Rattle.std.proofs.Common.{[], ◌∷◌, ◌++◌, rules}
-use Rattle.aig_check_commands.specs.Pairs.{comparison_text}
-use Rattle.aig_output.proofs.Putting.{failed_first, then_call}
+use Rattle.aig_check_commands.proofs.Words.{rules, comparison_text, failed_first, then_call}
+use Rattle.std.proofs.Common.{[], ◌∷◌, ◌++◌}
 use Rattle.aig_check_commands.proofs.equal_lines.buffer_always.Goals as goal
 
 pub returns-in_err-write_bytes : goal.returns-in_err-write_bytes

@@ -1,9 +1,6 @@
-use Rattle.std.proofs.Common.{ℕ, ◌≡◌, ◌<◌, List, [], ◌∷◌, ◌++◌, ◌∙◌, ap, append_assoc, arith, decimal, length, rules, subst}
-use Rattle.aig_base.proofs.Words.{take_rest}
-use Rattle.std.specs.Prelude.{codes, drop, slice_index}
-use Rattle.aig_check_commands.specs.Pairs.{comparison_text}
-use Rattle.aig_output.proofs.Putting.{Buffers-trans, failed_among, failed_first, then_call}
-use Rattle.aig_output.specs.Sinks.{BuffersOrStops}
+use Rattle.aig_check_commands.proofs.Words.{append_assoc, decimal, rules, take_rest, drop, slice_index, comparison_text, Buffers-trans, failed_among, failed_first, then_call, BuffersOrStops}
+use Rattle.std.proofs.Common.{ℕ, ◌≡◌, ◌<◌, List, [], ◌∷◌, ◌++◌, ◌∙◌, ap, arith, length, subst}
+use Rattle.std.specs.Prelude.{codes}
 use Rattle.aig_check_commands.proofs.equal_lines.buffer_equal.Goals as goal
 
 -- the line is its words, the number with the first byte behind it, and the other bytes

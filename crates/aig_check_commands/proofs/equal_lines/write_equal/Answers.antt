@@ -1,5 +1,4 @@
-use Rattle.std.proofs.Common.{rules}
-use Rattle.aig_output.proofs.Putting.{failed_put, written_through}
+use Rattle.aig_check_commands.proofs.Words.{rules, failed_put, written_through}
 use Rattle.aig_check_commands.proofs.equal_lines.write_equal.Goals as goal
 
 pub returns-in_err-buffer_equal : goal.returns-in_err-buffer_equal

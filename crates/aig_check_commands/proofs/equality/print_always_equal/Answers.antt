@@ -1,6 +1,4 @@
-use Rattle.aig_base.proofs.Words.{refl, err_from_is_err_and}
-use Rattle.aig_answers.specs.Equality.{AlwaysEquals}
-use Rattle.aig_check_commands.specs.Pairs.{always_line}
+use Rattle.aig_check_commands.proofs.Words.{refl, err_from_is_err_and, AlwaysEquals, always_line}
 use Rattle.aig_check_commands.specs.declared.error.CheckError.TheVariants as errors
 use Rattle.aig_check_commands.proofs.Outcomes.{error_printed, text_printed}
 use Rattle.aig_check_commands.proofs.Pairing.{pair_answered, refused_so}

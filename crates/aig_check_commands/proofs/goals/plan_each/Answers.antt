@@ -1,7 +1,5 @@
 use Rattle.std.proofs.Common.{[], ◌∷◌, ◌++◌, ◌∙◌, arith, sym}
-use Rattle.std.proofs.lemmas.List.FromFn.{map-range_with_len_more}
-use Rattle.aig_base.proofs.Words.{ap₂}
-use Rattle.aig_answers.specs.Plans.{asked_with}
+use Rattle.aig_check_commands.proofs.Words.{map-range_with_len_more, ap₂, asked_with}
 use Rattle.aig_answers.specs.declared.plans.asking.Ask.TheVariants as asks
 use Rattle.aig_check_commands.proofs.goals.plan_each.Goals as goal
 

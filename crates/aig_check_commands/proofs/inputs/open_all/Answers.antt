@@ -1,5 +1,4 @@
-use Rattle.aig_base.proofs.Words.{◌++◌, ◌∙◌, ap, arith, err_from_is_err_and, length, length-append, length-map, map, string_bytes, subst, sym}
-use Rattle.aig_check_commands.specs.Opening.{AreOpened}
+use Rattle.aig_check_commands.proofs.Words.{◌++◌, ◌∙◌, ap, arith, err_from_is_err_and, length, length-append, length-map, map, string_bytes, subst, sym, AreOpened}
 use Rattle.aig_check_commands.proofs.Opened.{all_opened, lacks_before, lacks_behind, opened_length, unlisted}
 use Rattle.aig_check_commands.proofs.inputs.open_all.Goals as goal
 

@@ -1,5 +1,4 @@
-use Rattle.aig_base.proofs.Words.{◌++◌, ◌∷◌, [], Err, Ok, List, String, Global, ap, arith, err_from_is_err_and, map, string_bytes, subst, take_all}
-use Rattle.aig_check_commands.specs.Opening.{AreOpened}
+use Rattle.aig_check_commands.proofs.Words.{◌++◌, ◌∷◌, [], Err, Ok, List, String, Global, ap, arith, err_from_is_err_and, map, string_bytes, subst, take_all, AreOpened}
 use Rattle.aig_check_commands.proofs.Opened.{lacks_at, opened_more}
 use Rattle.aig_check_commands.proofs.inputs.try_each.Goals as goal
 

@@ -1,10 +1,4 @@
-use Rattle.aig_base.proofs.Words.{ap, ap₂, subst, sym, ◌∙◌}
-use Rattle.aig_answers.proofs.NamelessWindows.{asks_of_file}
-use Rattle.aig_answers.specs.declared.windows.WindowClauses.{WindowClauses}
-use Rattle.aig_cnf.specs.Cnf.{HasClauses}
-use Rattle.aig_format.specs.Circuit.{circuit_of}
-use Rattle.aig_runs.specs.Queries.{query_clauses}
-use Rattle.aig_unroll.specs.Unroll.{UnrollsTo}
+use Rattle.aig_check_commands.proofs.Words.{ap, ap₂, subst, sym, ◌∙◌, asks_of_file, WindowClauses, HasClauses, circuit_of, query_clauses, UnrollsTo}
 use Rattle.aig_check_commands.proofs.Nameless.{asks_of_bads, clauses_kept, file_names, named, steps_are}
 use Rattle.aig_check_commands.proofs.laws.printed_clauses_are_checked.Goals as goal
 

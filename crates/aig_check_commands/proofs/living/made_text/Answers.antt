@@ -1,9 +1,5 @@
-use Rattle.aig_base.proofs.Words.{ℕ, Bool, List, Some, Ok, Err, Option, Vec, Global, ap, refl, subst, sym, ◌∙◌}
+use Rattle.aig_check_commands.proofs.Words.{ℕ, Bool, List, Some, Ok, Err, Option, Vec, Global, ap, refl, subst, sym, ◌∙◌, IsEditOwn, edit_verdict, file_on, IsUnmade, MakesText}
 use Rattle.aig_base.specs.declared.std_stream.ToWrite.{ToWrite}
-use Rattle.aig_edits.specs.Edits.{IsEditOwn, edit_verdict}
-use Rattle.aig_edits.proofs.ReadFiles.{file_on}
-use Rattle.aig_check_commands.specs.Made.{IsUnmade}
-use Rattle.aig_check_commands.specs.LivingParts.{MakesText}
 use Rattle.aig_check_commands.proofs.Made.{made_not, made_whole, same_own, same_said}
 use Rattle.aig_check_commands.proofs.living.made_text.Goals as goal
 

@@ -1,5 +1,4 @@
-use Rattle.aig_edits.specs.Lives.{PrintsLive}
-use Rattle.aig_edits.specs.Rounds.{PrintsRounds}
+use Rattle.aig_check_commands.proofs.Words.{PrintsLive, PrintsRounds}
 use Rattle.aig_check_commands.proofs.Made.{writes_made}
 use Rattle.aig_check_commands.proofs.living.write_made.Goals as goal
 

@@ -1,9 +1,7 @@
-use Rattle.aig_base.proofs.Words.{refl, err_from_is_err_and}
+use Rattle.aig_check_commands.proofs.Words.{refl, err_from_is_err_and, Equals, equal_line}
 use Rattle.aig_answers.specs.declared.error.AnswerError.TheVariants as answers
-use Rattle.aig_answers.specs.Certificates.{Equals}
 use Rattle.aig_answers.specs.declared.certificates.error.CertificateError.TheVariants as certificate
 use Rattle.aig_refutation.specs.declared.error.RefutationError.TheVariants as refutation
-use Rattle.aig_check_commands.specs.Pairs.{equal_line}
 use Rattle.aig_check_commands.specs.declared.error.CheckError.TheVariants as errors
 use Rattle.aig_check_commands.proofs.Outcomes.{err_of, error_printed, text_printed}
 use Rattle.aig_check_commands.proofs.Pairing.{no_window, pair_answered, pair_refused}

@@ -1,8 +1,6 @@
-use Rattle.aig_base.proofs.Words.{refl, ap, sym, ◌∙◌, err_from_is_err_and}
+use Rattle.aig_check_commands.proofs.Words.{refl, ap, sym, ◌∙◌, err_from_is_err_and, source_of, pair_title}
 use Rattle.aig_answers.specs.Certificates.{Obliges}
 use Rattle.aig_refutation.specs.declared.error.RefutationError.TheVariants as refutation
-use Rattle.aig_check_commands.specs.Under.{source_of}
-use Rattle.aig_check_commands.specs.Titling.{pair_title}
 use Rattle.aig_check_commands.specs.declared.error.CheckError.TheVariants as errors
 use Rattle.aig_check_commands.proofs.Outcomes.{error_printed, text_printed}
 use Rattle.aig_check_commands.proofs.Pairing.{no_proof_of_clauses, obligations_text, obliged_text, pair_answered, pair_refused, reads_under, summed_under}

@@ -1,9 +1,5 @@
-use Rattle.std.proofs.Common.{rules}
-use Rattle.aig_base.proofs.Words.{codes}
-use Rattle.aig_output.proofs.Putting.{Stops-before, failed_put}
+use Rattle.aig_check_commands.proofs.Words.{rules, codes, Stops-before, failed_put, part_text, clauses_with}
 use Rattle.aig_check_commands.specs.Titles.{title_text}
-use Rattle.aig_check_commands.specs.Pairs.{part_text}
-use Rattle.aig_check_commands.specs.Printing.{clauses_with}
 use Rattle.aig_check_commands.proofs.Pairing.{then_written}
 use Rattle.aig_check_commands.proofs.pairs.write_base.Goals as goal
 

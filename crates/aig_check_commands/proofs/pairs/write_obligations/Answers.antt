@@ -1,8 +1,6 @@
-use Rattle.aig_base.proofs.Words.{◌++◌, rules, codes}
-use Rattle.aig_output.proofs.Putting.{Stops-before, failed_put}
+use Rattle.aig_check_commands.proofs.Words.{◌++◌, codes, Stops-before, failed_put, part_text, clauses_with}
+use Rattle.aig_base.proofs.Words.{rules}
 use Rattle.aig_check_commands.specs.Titles.{title_text}
-use Rattle.aig_check_commands.specs.Pairs.{part_text}
-use Rattle.aig_check_commands.specs.Printing.{clauses_with}
 use Rattle.aig_check_commands.proofs.Pairing.{then_written}
 use Rattle.aig_check_commands.proofs.pairs.write_obligations.Goals as goal
 

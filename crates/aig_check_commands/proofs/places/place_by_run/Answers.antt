@@ -1,6 +1,4 @@
-use Rattle.aig_base.proofs.Words.{◌+◌, ◌++◌, None, arith, inl, inr, length, length-map, map, slice_get-get_or, string_bytes, subst, sym}
-use Rattle.aig_check_commands.specs.Explaining.{IsRefusedIn}
-use Rattle.aig_check_commands.specs.Opening.{AreOpened}
+use Rattle.aig_check_commands.proofs.Words.{◌+◌, ◌++◌, None, arith, inl, inr, length, length-map, map, slice_get-get_or, string_bytes, subst, sym, IsRefusedIn, AreOpened}
 use Rattle.aig_check_commands.proofs.Refusing.{opened_again}
 use Rattle.aig_check_commands.proofs.places.place_by_run.Goals as goal
 

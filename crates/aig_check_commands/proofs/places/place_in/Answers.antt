@@ -1,5 +1,4 @@
-use Rattle.aig_base.proofs.Words.{inl, inr, map, subst}
-use Rattle.aig_check_commands.specs.Explaining.{IsRefusedIn}
+use Rattle.aig_check_commands.proofs.Words.{inl, inr, map, subst, IsRefusedIn}
 use Rattle.aig_check_commands.proofs.Refusing.{refused_again}
 use Rattle.aig_check_commands.proofs.places.place_in.Goals as goal
 

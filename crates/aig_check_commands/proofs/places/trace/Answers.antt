@@ -1,6 +1,4 @@
-use Rattle.aig_base.proofs.Words.{◌<◌, ◌∙◌, ap, arith, length, length-map, map, refl, same_Some, slice_get-get_or, sym}
-use Rattle.std.specs.Prelude.{option_map}
-use Rattle.std.proofs.lemmas.Option.{slice_get-map, slice_get_within}
+use Rattle.aig_check_commands.proofs.Words.{◌<◌, ◌∙◌, ap, arith, length, length-map, map, refl, same_Some, slice_get-get_or, sym, option_map, slice_get-map, slice_get_within}
 use Rattle.aig_check_commands.specs.declared.places.Traced.TheVariants.{Plain}
 use Rattle.aig_check_commands.proofs.Refusing.{put_back}
 use Rattle.aig_check_commands.proofs.places.trace.Goals as goal

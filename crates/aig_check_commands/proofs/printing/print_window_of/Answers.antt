@@ -1,11 +1,7 @@
-use Rattle.std.specs.Prelude.{replicate}
-use Rattle.aig_base.proofs.Words.{[], ◌++◌, length, refl, ap, sym, ◌∙◌, err_from_is_err_and}
-use Rattle.aig_base.specs.Formula.{clauses_in}
+use Rattle.aig_check_commands.proofs.Words.{replicate, [], ◌++◌, length, refl, ap, sym, ◌∙◌, err_from_is_err_and, clauses_in, circuit_of, is_distinct, title_of}
 use Rattle.aig_dimacs.specs.Text.{dimacs_of}
-use Rattle.aig_format.specs.Circuit.{circuit_of}
 use Rattle.aig_check_commands.specs.Titles.{title_text}
 use Rattle.aig_check_commands.specs.declared.titles.title.Question.TheVariants.{Window}
-use Rattle.aig_check_commands.specs.Titling.{is_distinct, title_of}
 use Rattle.aig_check_commands.proofs.Commenting.{titled_again}
 use Rattle.aig_check_commands.proofs.Outcomes.{answer_ends, read_again, summed, window_refused}
 use Rattle.aig_check_commands.proofs.printing.print_window_of.Goals as goal

@@ -1,5 +1,4 @@
-use Rattle.aig_base.proofs.Words.{refl, subst, err_from_is_err_and}
-use Rattle.aig_circuit.specs.Circuit.{Circuit}
+use Rattle.aig_check_commands.proofs.Words.{refl, subst, err_from_is_err_and, Circuit}
 use Rattle.aig_witness.specs.Shown.{IsKnownWitness}
 use Rattle.aig_check_commands.proofs.Outcomes.{query_refused, read_again, solution_ends}
 use Rattle.aig_check_commands.proofs.printing.print_witness.Goals as goal

@@ -1,7 +1,6 @@
-use Rattle.std.proofs.Common.{[], ◌++◌, length, replicate, rules}
-use Rattle.aig_base.specs.Formula.{clauses_in}
+use Rattle.aig_check_commands.proofs.Words.{rules, clauses_in, Stops-before, failed_put}
+use Rattle.std.proofs.Common.{[], ◌++◌, length, replicate}
 use Rattle.aig_dimacs.specs.Text.{dimacs_of}
-use Rattle.aig_output.proofs.Putting.{Stops-before, failed_put}
 use Rattle.aig_check_commands.specs.Titles.{title_text}
 use Rattle.aig_check_commands.proofs.Pairing.{then_written}
 use Rattle.aig_check_commands.proofs.printing.write_window.Goals as goal

@@ -1,6 +1,5 @@
-use Rattle.std.proofs.Common.{[], ◌∷◌, ◌++◌, decimal, rules}
-use Rattle.aig_base.proofs.Words.{codes}
-use Rattle.aig_output.proofs.Putting.{Buffers-trans, failed_among, failed_first, then_call}
+use Rattle.aig_check_commands.proofs.Words.{decimal, rules, codes, Buffers-trans, failed_among, failed_first, then_call}
+use Rattle.std.proofs.Common.{[], ◌∷◌, ◌++◌}
 use Rattle.aig_check_commands.proofs.run.buffer_lasso.Goals as goal
 
 pub returns-in_err-write_bytes : goal.returns-in_err-write_bytes

@@ -1,5 +1,4 @@
-use Rattle.aig_base.proofs.Words.{refl, err_from_is_err_and}
-use Rattle.aig_check_commands.specs.Running.{shown_line}
+use Rattle.aig_check_commands.proofs.Words.{refl, err_from_is_err_and, shown_line}
 use Rattle.aig_check_commands.proofs.Outcomes.{answer_ends}
 use Rattle.aig_check_commands.proofs.Shown.{claim_refused, shown_answers}
 use Rattle.aig_check_commands.proofs.run.print_run.Goals as goal

@@ -1,9 +1,5 @@
-use Rattle.aig_base.proofs.Words.{Ok, Err, err_from_is_err_and, refl, subst, ◌∙◌}
-use Rattle.aig_format.specs.Circuit.{text_of}
-use Rattle.aig_check_commands.specs.Printing.{after_writing}
-use Rattle.aig_check_commands.specs.Living.{ChecksMade, ChecksText}
+use Rattle.aig_check_commands.proofs.Words.{Ok, Err, err_from_is_err_and, refl, subst, ◌∙◌, text_of, after_writing, ChecksMade, ChecksText, HasFairRun}
 use Rattle.aig_check_commands.specs.Goals.{no_run_line}
-use Rattle.aig_edit_laws.specs.Fair.{HasFairRun}
 use Rattle.aig_check_commands.proofs.Made.{concludes_refused, concludes_written, ran, ran_no_making, ran_no_write, ran_on_text, shows_fair, unmade, written_no_making}
 use Rattle.aig_check_commands.proofs.running.check_made.Goals as goal
 

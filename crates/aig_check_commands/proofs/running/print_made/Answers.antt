@@ -1,6 +1,4 @@
-use Rattle.aig_base.proofs.Words.{err_from_is_err_and, refl, subst, ◌∙◌}
-use Rattle.aig_format.specs.File.{File}
-use Rattle.aig_check_commands.specs.Living.{PrintsMade}
+use Rattle.aig_check_commands.proofs.Words.{err_from_is_err_and, refl, subst, ◌∙◌, File, PrintsMade}
 use Rattle.aig_check_commands.proofs.Made.{prints_on_text, ran, ran_no_making, ran_on_text, unmade}
 use Rattle.aig_check_commands.proofs.running.print_made.Goals as goal
 

@@ -1,5 +1,4 @@
-use Rattle.aig_base.proofs.Words.{refl, ap, sym, ◌∙◌, err_from_is_err_and}
-use Rattle.aig_check_commands.specs.Under.{source_of}
+use Rattle.aig_check_commands.proofs.Words.{refl, ap, sym, ◌∙◌, err_from_is_err_and, source_of}
 use Rattle.aig_check_commands.proofs.Simulating.{is_obligation_text, obligation_ends, obligation_refused, obligation_text, reads_under, summed_under}
 use Rattle.aig_check_commands.proofs.simulated.print_obligation_of.Goals as goal
 

@@ -1,6 +1,4 @@
-use Rattle.aig_base.proofs.Words.{Err, err_from_is_err_and, refl}
-use Rattle.aig_simulation.specs.declared.condition.Condition.TheVariants.{Base, Property, Reset, Step, Transition}
-use Rattle.aig_simulated.specs.Simulated.{proofs_of}
+use Rattle.aig_simulated.proofs.Words.{Err, err_from_is_err_and, refl, Base, Property, Reset, Step, Transition, proofs_of}
 use Rattle.aig_simulated.proofs.Turns.{ends, fails_alone, keeps, stops}
 use Rattle.aig_simulated.proofs.checking.check_claim.Goals as goal
 

@@ -1,6 +1,4 @@
-use Rattle.aig_base.proofs.Words.{ℕ, Err, List, Option, err_from_is_err_and, refl}
-use Rattle.aig_simulation.specs.declared.condition.Condition.{Condition}
-use Rattle.aig_simulated.specs.Simulated.{Certifies, IsOwn, first_verdict, proof_for, proofs_of, refusal_of}
+use Rattle.aig_simulated.proofs.Words.{ℕ, Err, List, Option, err_from_is_err_and, refl, Condition, Certifies, IsOwn, first_verdict, proof_for, proofs_of, refusal_of}
 use Rattle.aig_simulated.proofs.Reading.{reads_on}
 use Rattle.aig_simulated.proofs.Telling.{Known, certifies, check_said, not_certified, own_of_claim}
 use Rattle.aig_simulated.proofs.checking.check_simulated.Goals as goal

@@ -1,8 +1,5 @@
-use Rattle.aig_base.proofs.Words.{Err, Ok, err_from_is_err_and}
-use Rattle.aig_answers.specs.Answers.{query_with}
+use Rattle.aig_simulated.proofs.Words.{Err, Ok, err_from_is_err_and, query_with, lists_circuit, question_in}
 use Rattle.aig_answers.specs.declared.error.AnswerError.TheVariants as answers
-use Rattle.aig_circuit.specs.View.{lists_circuit}
-use Rattle.aig_simulated.specs.Simulated.{question_in}
 use Rattle.aig_simulated.proofs.Telling.{query_asked}
 use Rattle.aig_simulated.proofs.checking.refute_question.Goals as goal
 

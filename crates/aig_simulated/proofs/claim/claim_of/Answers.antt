@@ -1,11 +1,5 @@
-use Rattle.aig_base.proofs.Words.{◌≡◌, ◌==◌, ◌∙◌, Bool, Global, Vec, [], ap, arith, eq-eqb, false, false≢true, length, refl, sym, vec_len}
-use Rattle.aig_circuit.specs.declared.edge.AigEdge.{AigEdge}
-use Rattle.aig_circuit.specs.Circuit.{Circuit}
-use Rattle.aig_reader.specs.Reading.{node_told}
-use Rattle.aig_simulation.specs.Circular.{IsCircular}
-use Rattle.aig_simulation.specs.Named.{Shares}
+use Rattle.aig_simulated.proofs.Words.{◌≡◌, ◌==◌, ◌∙◌, Bool, Global, Vec, [], ap, arith, eq-eqb, false, false≢true, length, refl, sym, vec_len, AigEdge, Circuit, node_told, IsCircular, Shares, CanStart}
 use Rattle.aig_simulation.specs.Questions.{CanShareLeaves}
-use Rattle.aig_simulation.specs.Simulation.{CanStart}
 use Rattle.aig_simulation.proofs.Deciding.{carry2}
 use Rattle.aig_simulated.proofs.claim.claim_of.Goals as goal
 

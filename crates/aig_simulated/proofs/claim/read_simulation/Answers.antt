@@ -1,9 +1,7 @@
-use Rattle.aig_base.proofs.Words.{sym, subst}
+use Rattle.aig_simulated.proofs.Words.{sym, subst, node_told, Claims, IsOfClaim, first_verdict, refusal_of}
 use Rattle.aig_circuit.proofs.Words.{IsCircuit, lists_circuit}
 use Rattle.aig_format.proofs.Circuits.{IsCircuit-of_file}
-use Rattle.aig_reader.specs.Reading.{node_told}
 use Rattle.aig_reader.proofs.ResetCircuits.{IsCircuit-with_resets}
-use Rattle.aig_simulated.specs.Simulated.{Claims, IsOfClaim, first_verdict, refusal_of}
 use Rattle.aig_simulated.proofs.Claiming.{claim_said, claims_made}
 use Rattle.aig_simulated.proofs.Reading.{both_taken}
 use Rattle.aig_simulated.proofs.claim.read_simulation.Goals as goal

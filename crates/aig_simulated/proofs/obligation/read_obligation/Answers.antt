@@ -1,7 +1,6 @@
-use Rattle.aig_base.proofs.Words.{Err, Ok, err_from_is_err_and, refl}
+use Rattle.aig_simulated.proofs.Words.{Err, Ok, err_from_is_err_and, refl, IsOfObligation, Obliges, first_verdict, refusal_of}
 use Rattle.aig_simulated.specs.declared.error.ConditionError.TheVariants as conditions
 use Rattle.aig_simulated.specs.declared.error.SimulationError.TheVariants as errors
-use Rattle.aig_simulated.specs.Simulated.{IsOfObligation, Obliges, first_verdict, refusal_of}
 use Rattle.aig_simulated.proofs.Reading.{reads_on}
 use Rattle.aig_simulated.proofs.Telling.{not_obliged, obligation_of_claim, obliges, unasked}
 use Rattle.aig_simulated.proofs.obligation.read_obligation.Goals as goal

@@ -1,8 +1,5 @@
-use Rattle.aig_base.proofs.Words.{subst}
-use Rattle.aig_reader.specs.Verdicts.{verdict_by}
-use Rattle.aig_runs.specs.Queries.{IsSafeTo}
-use Rattle.aig_runs.specs.Safety.{IsCircuitSafeAt}
-use Rattle.aig_answers.specs.Asking.{AnswersCircuit, AnswersProof, verdict_of}
+use Rattle.aig_answers.proofs.Words.{subst, verdict_by, IsSafeTo, IsCircuitSafeAt, AnswersCircuit, AnswersProof}
+use Rattle.aig_answers.specs.Asking.{verdict_of}
 use Rattle.aig_answers.proofs.AskedFiles.{asked_of_lists, read_circuit, read_closed, read_starts}
 use Rattle.aig_answers.proofs.BoundedVerdicts.{judged, ok_bads, taken_bads}
 use Rattle.aig_answers.proofs.bounded_checks.checking.check_bounded.Goals as goal

@@ -1,7 +1,4 @@
-use Rattle.aig_base.proofs.Words.{sym, subst, All, AllZip}
-use Rattle.aig_bounded.specs.declared.place.Place.{Place}
-use Rattle.aig_circuit.proofs.Words.{IsLeaf}
-use Rattle.aig_answers.specs.Naming.{IsNamed}
+use Rattle.aig_answers.proofs.Words.{sym, subst, All, AllZip, Place, IsLeaf, IsNamed}
 use Rattle.aig_answers.proofs.AskedFiles.{encoded_question}
 use Rattle.aig_answers.proofs.bounded_checks.clauses.ask_circuit.Goals as goal
 

@@ -1,7 +1,4 @@
-use Rattle.aig_base.proofs.Words.{sym, subst, All}
-use Rattle.aig_circuit.proofs.Words.{HasConstantInit}
-use Rattle.aig_circuit.specs.Circuit.{Circuit, IsClosed}
-use Rattle.aig_answers.specs.Encoded.{IsEncodedQuestion}
+use Rattle.aig_answers.proofs.Words.{sym, subst, All, HasConstantInit, Circuit, IsClosed, IsEncodedQuestion}
 use Rattle.aig_answers.proofs.bounded_checks.clauses.ask_lists.Goals as goal
 
 pub ask_circuit-requires-clause-closed : goal.ask_circuit-requires-clause-closed

@@ -1,5 +1,4 @@
-use Rattle.aig_base.proofs.Words.{Err, ap, err_from_is_err_and}
-use Rattle.aig_reader.specs.Verdicts.{Accepted}
+use Rattle.aig_answers.proofs.Words.{Err, ap, err_from_is_err_and, Accepted}
 use Rattle.aig_answers.specs.Asking.{verdict_of}
 use Rattle.aig_answers.proofs.AskedFiles.{AreBelow-extra, asked_of, read_circuit, read_closed, read_starts, size_of}
 use Rattle.aig_answers.proofs.BoundedVerdicts.{judged, unread}

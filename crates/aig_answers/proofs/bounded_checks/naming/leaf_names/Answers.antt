@@ -1,6 +1,4 @@
-use Rattle.aig_base.proofs.Words.{length, sym, ap, subst, ◌++◌, arith, with_items_is, All}
-use Rattle.aig_circuit.specs.Circuit.{latch_leaves}
-use Rattle.aig_answers.specs.Encoded.{HasName}
+use Rattle.aig_answers.proofs.Words.{length, sym, ap, subst, ◌++◌, arith, with_items_is, All, latch_leaves, HasName}
 use Rattle.aig_answers.proofs.bounded_checks.naming.leaf_names.Goals as goal
 
 pub returns-clause-named : goal.returns-clause-named

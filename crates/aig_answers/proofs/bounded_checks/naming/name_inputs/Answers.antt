@@ -1,10 +1,6 @@
-use Rattle.aig_base.proofs.Words.{◌≡◌, ◌<◌, Some, false, length, get_or, set, sym, ap, subst, ◌∙◌, arith, length-set, slice_get-get_or}
+use Rattle.aig_answers.proofs.Words.{◌≡◌, ◌<◌, Some, false, length, get_or, set, sym, ap, subst, ◌∙◌, arith, length-set, slice_get-get_or, kind_at-within, HasName, leaf_of, Named}
 use borrow.Author.Count.{below_more}
 use Rattle.aig_circuit.specs.Circuit.{IsLeaf}
-use Rattle.aig_circuit.proofs.Trees.{kind_at-within}
-use Rattle.aig_answers.specs.Encoded.{HasName}
-use Rattle.aig_answers.specs.Naming.{leaf_of}
-use Rattle.aig_answers.specs.declared.bounded_checks.naming.Named.{Named}
 use Rattle.aig_answers.proofs.Names.{AreNamed, HasName-kept, HasName-written}
 use Rattle.aig_answers.proofs.bounded_checks.naming.name_inputs.Goals as goal
 

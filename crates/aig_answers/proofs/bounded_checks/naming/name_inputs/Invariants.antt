@@ -1,5 +1,4 @@
-use Rattle.aig_base.proofs.Words.{◌≡◌, ℕ, ◌<◌, length, slice_index}
-use Rattle.aig_answers.specs.Encoded.{HasName}
+use Rattle.aig_answers.proofs.Words.{◌≡◌, ℕ, ◌<◌, length, slice_index, HasName}
 use Rattle.aig_answers.proofs.bounded_checks.naming.name_inputs.Given as goal
 
 abbrev pub invariant-loop-number : goal.invariant-loop-number

@@ -1,9 +1,5 @@
-use Rattle.aig_base.proofs.Words.{◌<◌, true, length, get_or, set, sym, ap, subst, ◌∙◌, arith, length-map, length-set}
+use Rattle.aig_answers.proofs.Words.{◌<◌, true, length, get_or, set, sym, ap, subst, ◌∙◌, arith, length-map, length-set, AigLatch, latch_leaves, Named, HasName}
 use borrow.Author.Count.{below_more}
-use Rattle.aig_circuit.specs.declared.node.AigLatch.{AigLatch}
-use Rattle.aig_circuit.specs.Circuit.{latch_leaves}
-use Rattle.aig_answers.specs.declared.bounded_checks.naming.Named.{Named}
-use Rattle.aig_answers.specs.Encoded.{HasName}
 use Rattle.aig_answers.proofs.Names.{AreNamed, HasName-kept, HasName-written, latch_leaf, latch_named, latch_within}
 use Rattle.aig_answers.proofs.bounded_checks.naming.name_latchs.Goals as goal
 

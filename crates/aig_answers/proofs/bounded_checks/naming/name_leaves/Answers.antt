@@ -1,6 +1,5 @@
 use Rattle.std.proofs.lemmas.List.Elements.{All-append}
-use Rattle.aig_circuit.specs.Circuit.{latch_leaves}
-use Rattle.aig_answers.specs.Encoded.{HasName}
+use Rattle.aig_answers.proofs.Words.{latch_leaves, HasName}
 use Rattle.aig_answers.proofs.bounded_checks.naming.name_leaves.Goals as goal
 
 pub returns : goal.returns

@@ -1,5 +1,4 @@
-use Rattle.aig_base.proofs.Words.{subst, arith, AllZip, take_all}
-use Rattle.aig_answers.specs.Naming.{IsNamed}
+use Rattle.aig_answers.proofs.Words.{subst, arith, AllZip, take_all, IsNamed}
 use Rattle.aig_answers.proofs.Names.{named_more}
 use Rattle.aig_answers.proofs.bounded_checks.naming.name_places.Goals as goal
 

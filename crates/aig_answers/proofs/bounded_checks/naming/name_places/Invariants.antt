@@ -1,5 +1,4 @@
-use Rattle.aig_base.proofs.Words.{take, AllZip}
-use Rattle.aig_answers.specs.Naming.{IsNamed}
+use Rattle.aig_answers.proofs.Words.{take, AllZip, IsNamed}
 use Rattle.aig_answers.proofs.bounded_checks.naming.name_places.Given as goal
 
 abbrev pub invariant-loop-place : goal.invariant-loop-place

@@ -1,8 +1,4 @@
-use Rattle.aig_base.proofs.Words.{IfOk, ap, subst, ◌∙◌}
-use Rattle.aig_circuit.specs.Circuit.{Circuit}
-use Rattle.aig_ternary.specs.Ternary.{Simulation}
-use Rattle.aig_witness.specs.Witness.{rows_of}
-use Rattle.aig_answers.specs.Solving.{IsReached}
+use Rattle.aig_answers.proofs.Words.{IfOk, ap, subst, ◌∙◌, Circuit, Simulation, rows_of, IsReached}
 use Rattle.aig_answers.proofs.bounded_checks.simulating.find_bad.Goals as goal
 
 pub returns : goal.returns

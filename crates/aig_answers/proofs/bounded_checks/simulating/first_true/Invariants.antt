@@ -1,7 +1,5 @@
-use Rattle.aig_base.proofs.Words.{◌≢◌, ℕ, ◌<◌, false, slice_index_or}
-use Rattle.aig_base.specs.declared.logic.three.Lbool.TheVariants.{TRUE}
+use Rattle.aig_answers.proofs.Words.{◌≢◌, ℕ, ◌<◌, false, slice_index_or, TRUE, value_in}
 use Rattle.aig_circuit.specs.Edge.{edge_to}
-use Rattle.aig_ternary.specs.Ternary.{value_in}
 use Rattle.aig_answers.proofs.bounded_checks.simulating.first_true.Given as goal
 
 abbrev pub invariant-loop-i : goal.invariant-loop-i

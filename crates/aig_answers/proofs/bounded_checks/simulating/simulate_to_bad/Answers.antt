@@ -1,13 +1,6 @@
-use Rattle.aig_base.proofs.Words.{◌≡◌, length, sym, ap, subst, ◌∙◌, arith}
-use Rattle.std.specs.Prelude.{All, Vec}
-use Rattle.std.specs.declared.alloc.Global.{Global}
+use Rattle.aig_answers.proofs.Words.{◌≡◌, length, sym, ap, subst, ◌∙◌, arith, Vec, Global, Lbool, Circuit, HasValue, AreTrueIn, rows_of, HasNoTrueIn, IsTrueIn, after}
+use Rattle.std.specs.Prelude.{All}
 use borrow.Author.Count.{below_more}
-use Rattle.aig_base.specs.declared.logic.three.Lbool.{Lbool}
-use Rattle.aig_circuit.specs.Circuit.{Circuit}
-use Rattle.aig_ternary.specs.Ternary.{HasValue}
-use Rattle.aig_witness.specs.Shown.{AreTrueIn}
-use Rattle.aig_witness.specs.Witness.{rows_of}
-use Rattle.aig_answers.specs.Solving.{HasNoTrueIn, IsTrueIn, after}
 use Rattle.aig_answers.proofs.Simulated.{constraint_fails, row_at, same_circuit, step_more, true_turned, values_there}
 use Rattle.aig_answers.proofs.bounded_checks.simulating.simulate_to_bad.Goals as goal
 

@@ -1,8 +1,5 @@
 use Rattle.std.proofs.Common.{◌≡◌, ℕ, ◌<◌, take}
-use Rattle.aig_ternary.specs.Ternary.{simulation_of, stepped_all}
-use Rattle.aig_witness.specs.Shown.{AreTrueIn}
-use Rattle.aig_witness.specs.Witness.{rows_of}
-use Rattle.aig_answers.specs.Solving.{HasNoTrueIn, after}
+use Rattle.aig_answers.proofs.Words.{simulation_of, stepped_all, AreTrueIn, rows_of, HasNoTrueIn, after}
 use Rattle.aig_answers.proofs.bounded_checks.simulating.simulate_to_bad.Given as goal
 
 abbrev pub invariant-loop-step : goal.invariant-loop-step

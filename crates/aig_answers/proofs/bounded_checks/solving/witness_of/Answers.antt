@@ -1,17 +1,6 @@
 use Rattle.std.proofs.Common.{◌≡◌, ℕ, ◌+◌, List, length, take, sym, ap, subst, ◌∙◌}
-use Rattle.std.specs.Prelude.{Vec}
-use Rattle.std.specs.List.{take-map}
-use Rattle.std.specs.declared.alloc.Global.{Global}
-use Rattle.aig_base.specs.declared.logic.three.Lbool.{Lbool}
-use Rattle.aig_circuit.specs.declared.edge.AigEdge.{AigEdge}
-use Rattle.aig_circuit.proofs.Words.{Properties, lists_circuit}
-use Rattle.aig_circuit.proofs.Lists.{All-from_map}
-use Rattle.aig_cnf.proofs.Forms.{literal_value-lit_of}
-use Rattle.aig_runs.specs.Queries.{unit_clauses}
-use Rattle.aig_witness.specs.Witness.{Witness, rows_of, said_by}
-use Rattle.aig_answers.specs.Asking.{assigned}
-use Rattle.aig_answers.specs.Said.{SaysRun}
-use Rattle.aig_answers.specs.Solving.{Begins, IsReached, SaysOnly, WitnessWithin}
+use Rattle.aig_answers.proofs.Words.{Vec, take-map, Global, Lbool, AigEdge, Properties, All-from_map, literal_value-lit_of, unit_clauses, Witness, rows_of, said_by, assigned, SaysRun, Begins, IsReached, SaysOnly, WitnessWithin}
+use Rattle.aig_circuit.proofs.Words.{lists_circuit}
 use Rattle.aig_answers.proofs.Safe.{output_holds}
 use Rattle.aig_answers.proofs.Simulated.{known_of_reached}
 use Rattle.aig_answers.proofs.Solved.{says_run, solution_reaches}

@@ -1,5 +1,4 @@
-use Rattle.aig_base.proofs.Words.{[], ◌∷◌, ◌++◌, ◌∙◌, ap, ap₂, map, map_more, sym, take_all}
-use Rattle.aig_answers.specs.Solving.{start_value}
+use Rattle.aig_answers.proofs.Words.{[], ◌∷◌, ◌++◌, ◌∙◌, ap, ap₂, map, map_more, sym, take_all, start_value}
 use Rattle.aig_answers.proofs.bounded_checks.values.first_state.Goals as goal
 
 pub loop-latch-preserved : goal.loop-latch-preserved

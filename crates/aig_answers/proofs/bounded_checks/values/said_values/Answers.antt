@@ -1,9 +1,5 @@
-use Rattle.aig_base.proofs.Words.{◌+◌, ◌<◌, false, get_or, length, sym, ap, subst, ◌∙◌, arith, get_or_default}
-use Rattle.aig_witness.specs.Shown.{known_of}
-use Rattle.aig_witness.specs.Witness.{Witness, said_by}
-use Rattle.aig_answers.specs.declared.bounded_checks.naming.Named.{Named}
-use Rattle.aig_answers.specs.Asking.{assigned}
-use Rattle.aig_answers.specs.Solving.{with_value}
+use Rattle.aig_answers.proofs.Words.{◌+◌, ◌<◌, false, get_or, length, sym, ap, subst, ◌∙◌, arith, known_of, Witness, said_by, Named, assigned, with_value}
+use Rattle.aig_base.proofs.Words.{get_or_default}
 use Rattle.aig_answers.proofs.Saying.{SaysTo, leaves_long, room_at, said_more}
 use Rattle.aig_answers.proofs.bounded_checks.values.said_values.Goals as goal
 

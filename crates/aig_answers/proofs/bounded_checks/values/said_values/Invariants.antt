@@ -1,9 +1,4 @@
-use Rattle.aig_base.proofs.Words.{◌≡◌, ℕ, ◌<◌, slice_index, slice_index_or}
-use Rattle.aig_witness.specs.Shown.{known_of}
-use Rattle.aig_witness.specs.Witness.{said_by}
-use Rattle.aig_answers.specs.declared.bounded_checks.naming.Named.{Named}
-use Rattle.aig_answers.specs.Asking.{assigned}
-use Rattle.aig_answers.specs.Solving.{Begins, SaysOnly, value_said}
+use Rattle.aig_answers.proofs.Words.{◌≡◌, ℕ, ◌<◌, slice_index, slice_index_or, known_of, said_by, Named, assigned, Begins, SaysOnly, value_said}
 use Rattle.aig_answers.proofs.bounded_checks.values.said_values.Given as goal
 
 abbrev pub invariant-loop-i : goal.invariant-loop-i

@@ -1,8 +1,5 @@
-use Rattle.aig_base.proofs.Words.{Err, refl, err_from_is_err_and}
-use Rattle.aig_edits.proofs.Reading.{reads_on}
-use Rattle.aig_circuit.specs.View.{lists_circuit}
+use Rattle.aig_answers.proofs.Words.{Err, refl, err_from_is_err_and, reads_on, lists_circuit, IsOfClauses, Obliges, first_verdict, second_verdict}
 use Rattle.aig_answers.specs.declared.certificates.error.CertificateError.TheVariants as errors
-use Rattle.aig_answers.specs.Certificates.{IsOfClauses, Obliges, first_verdict, second_verdict}
 use Rattle.aig_answers.proofs.PairAnswering.{first_asked, obliges, own_asked, second_asked}
 use Rattle.aig_answers.proofs.certificates.asking.obligations_of.Goals as goal
 

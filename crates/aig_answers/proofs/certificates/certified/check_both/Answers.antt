@@ -1,11 +1,4 @@
-use Rattle.aig_base.proofs.Words.{Err, Ok, ap, subst, ◌∙◌}
-use Rattle.aig_circuit.specs.Circuit.{Circuit}
-use Rattle.aig_circuit.specs.View.{lists_circuit}
-use Rattle.aig_runs.specs.Safety.{IsCircuitSafeAt}
-use Rattle.aig_answers.specs.Answers.{verdict_of}
-use Rattle.aig_answers.specs.Certificates.{joint_verdict}
-use Rattle.aig_answers.specs.PlanWords.{answer_error}
-use Rattle.aig_answers.specs.Plans.{Tells, asked_with}
+use Rattle.aig_answers.proofs.Words.{Err, Ok, ap, subst, ◌∙◌, Circuit, lists_circuit, IsCircuitSafeAt, verdict_of, joint_verdict, answer_error, Tells, asked_with}
 use Rattle.aig_answers.specs.declared.plans.asking.Ask.TheVariants as asks
 use Rattle.aig_answers.proofs.Telling.{equal_said, refused_two, step_of_proof}
 use Rattle.aig_answers.proofs.Verdicts.{query_of_step}

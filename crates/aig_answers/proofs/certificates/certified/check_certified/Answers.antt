@@ -1,8 +1,5 @@
-use Rattle.aig_base.proofs.Words.{Err, refl, err_from_is_err_and}
-use Rattle.aig_edits.proofs.Reading.{reads_on}
-use Rattle.aig_circuit.specs.View.{lists_circuit}
+use Rattle.aig_answers.proofs.Words.{Err, refl, err_from_is_err_and, reads_on, lists_circuit, Certifies, IsOwn, first_verdict, second_verdict}
 use Rattle.aig_answers.specs.declared.certificates.error.CertificateError.TheVariants as errors
-use Rattle.aig_answers.specs.Certificates.{Certifies, IsOwn, first_verdict, second_verdict}
 use Rattle.aig_answers.proofs.PairAnswering.{Known, certifies, first_both, own_both, second_both}
 use Rattle.aig_answers.proofs.certificates.certified.check_certified.Goals as goal
 

@@ -1,5 +1,4 @@
-use Rattle.aig_base.proofs.Words.{refl, err_from_is_err_and}
-use Rattle.aig_circuit.specs.View.{lists_circuit}
+use Rattle.aig_answers.proofs.Words.{refl, err_from_is_err_and, lists_circuit}
 use Rattle.aig_answers.proofs.PairAnswering.{second_both}
 use Rattle.aig_answers.proofs.Mitered.{beside_both, holds_beside}
 use Rattle.aig_answers.proofs.certificates.compared.check_beside.Goals as goal

@@ -1,7 +1,5 @@
-use Rattle.aig_base.proofs.Words.{Ok, Err, refl, err_from_is_err_and}
-use Rattle.aig_circuit.specs.View.{lists_circuit}
-use Rattle.aig_edits.proofs.Reading.{reads_on}
-use Rattle.aig_answers.specs.Comparing.{EqualsBy, IsOwn, first_verdict, second_verdict}
+use Rattle.aig_answers.proofs.Words.{Ok, Err, refl, err_from_is_err_and, lists_circuit, reads_on, EqualsBy}
+use Rattle.aig_answers.specs.Comparing.{IsOwn, first_verdict, second_verdict}
 use Rattle.aig_answers.specs.declared.certificates.compare_error.MiterError.TheVariants as errors
 use Rattle.aig_answers.proofs.PairAnswering.{Known}
 use Rattle.aig_answers.proofs.Mitered.{certifies_read, equal_read}

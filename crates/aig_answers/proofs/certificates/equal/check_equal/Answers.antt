@@ -1,10 +1,5 @@
-use Rattle.aig_base.proofs.Words.{Ok, Err, Result, refl, err_from_is_err_and}
-use Rattle.aig_edits.proofs.Reading.{reads_on}
-use Rattle.aig_circuit.specs.View.{lists_circuit}
-use Rattle.aig_answers.specs.declared.certificates.error.CertificateError.{CertificateError}
+use Rattle.aig_answers.proofs.Words.{Ok, Err, Result, refl, err_from_is_err_and, reads_on, lists_circuit, CertificateError, HoldsStep, Equals, IsOwn, first_verdict, second_verdict}
 use Rattle.aig_answers.specs.declared.certificates.error.CertificateError.TheVariants as errors
-use Rattle.aig_answers.specs.PairParts.{HoldsStep}
-use Rattle.aig_answers.specs.Certificates.{Equals, IsOwn, first_verdict, second_verdict}
 use Rattle.aig_answers.proofs.PairAnswering.{equals, first_step, own_step, second_step}
 use Rattle.aig_answers.proofs.certificates.equal.check_equal.Goals as goal
 

@@ -1,6 +1,4 @@
-use Rattle.aig_base.proofs.Words.{ap, ◌∙◌}
-use Rattle.aig_circuit.specs.View.{lists_circuit}
-use Rattle.aig_answers.specs.Certificates.{joint_verdict}
+use Rattle.aig_answers.proofs.Words.{ap, ◌∙◌, lists_circuit, joint_verdict}
 use Rattle.aig_answers.proofs.WordsOfKinds.{query_tells}
 use Rattle.aig_answers.proofs.certificates.equal.check_step_of.Goals as goal
 

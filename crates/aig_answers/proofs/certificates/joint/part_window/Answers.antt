@@ -1,9 +1,4 @@
-use Rattle.aig_base.proofs.Words.{◌≤◌, ◌^◌, arith, length, subst, sym}
-use Rattle.aig_answers.specs.Answers.{AreWrittenFrom, AskWith}
-use Rattle.aig_circuit.specs.Circuit.{Circuit}
-use Rattle.aig_unroll.specs.Unroll.{UnrollsTo}
-use Rattle.aig_runs.specs.WindowClauses.{AsksWindow}
-use Rattle.aig_runs.specs.declared.window.Window.TheVariants.{Plain}
+use Rattle.aig_answers.proofs.Words.{◌≤◌, ◌^◌, arith, length, subst, sym, AreWrittenFrom, AskWith, Circuit, UnrollsTo, AsksWindow, Plain}
 use Rattle.aig_answers.proofs.certificates.joint.part_window.Goals as goal
 
 pub returns-clause-asks : goal.returns-clause-asks

@@ -1,7 +1,4 @@
-use Rattle.aig_base.proofs.Words.{ap, sym, ◌∙◌, err_from_is_err_and}
-use Rattle.aig_circuit.specs.View.{lists_circuit}
-use Rattle.aig_answers.specs.Answers.{verdict_of}
-use Rattle.aig_answers.specs.Certificates.{joint_verdict}
+use Rattle.aig_answers.proofs.Words.{ap, sym, ◌∙◌, err_from_is_err_and, lists_circuit, verdict_of, joint_verdict}
 use Rattle.aig_answers.proofs.Telling.{equal_said, few_unrolled}
 use Rattle.aig_answers.proofs.certificates.joint.unroll_joint.Goals as goal
 

@@ -1,9 +1,6 @@
-use Rattle.aig_base.proofs.Words.{Ok, Err, refl, err_from_is_err_and}
-use Rattle.aig_circuit.specs.View.{lists_circuit}
-use Rattle.aig_edits.proofs.Reading.{reads_on}
+use Rattle.aig_answers.proofs.Words.{Ok, Err, refl, err_from_is_err_and, lists_circuit, reads_on, again_closed, again_starts}
 use Rattle.aig_answers.specs.declared.equality.error.EqualityError.TheVariants as errors
 use Rattle.aig_answers.specs.Equality.{AlwaysEquals, IsOwn, first_verdict, second_verdict}
-use Rattle.aig_edits.proofs.Again.{again_closed, again_starts}
 use Rattle.aig_answers.proofs.AlwaysEqual.{equal_where}
 use Rattle.aig_answers.proofs.equality.always.check_always_equal.Goals as goal
 

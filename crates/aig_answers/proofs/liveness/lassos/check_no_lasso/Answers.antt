@@ -1,8 +1,6 @@
-use Rattle.aig_base.proofs.Words.{Ok, Err, refl, err_from_is_err_and}
-use Rattle.aig_circuit.specs.View.{lists_circuit}
-use Rattle.aig_edits.proofs.ReadFiles.{file_on}
+use Rattle.aig_answers.proofs.Words.{Ok, Err, refl, err_from_is_err_and, lists_circuit, file_on, HasNoLasso}
 use Rattle.aig_answers.specs.declared.liveness.error.LivenessError.TheVariants as errors
-use Rattle.aig_answers.specs.Liveness.{HasNoLasso, IsOwn, verdict_of}
+use Rattle.aig_answers.specs.Liveness.{IsOwn, verdict_of}
 use Rattle.aig_answers.proofs.liveness.lassos.check_no_lasso.Goals as goal
 
 pub returns-in_err-live-clause-reads : goal.returns-in_err-live-clause-reads

@@ -1,9 +1,6 @@
-use Rattle.aig_base.proofs.Words.{Ok, Err, refl, err_from_is_err_and}
-use Rattle.aig_circuit.specs.View.{lists_circuit}
-use Rattle.aig_edits.proofs.Again.{again_closed, again_starts}
-use Rattle.aig_edits.proofs.ReadFiles.{file_on}
+use Rattle.aig_answers.proofs.Words.{Ok, Err, refl, err_from_is_err_and, lists_circuit, again_closed, again_starts, file_on, HasNoRun}
 use Rattle.aig_answers.specs.declared.liveness.error.LivenessError.TheVariants as errors
-use Rattle.aig_answers.specs.Liveness.{HasNoRun, IsOwn, verdict_of}
+use Rattle.aig_answers.specs.Liveness.{IsOwn, verdict_of}
 use Rattle.aig_answers.proofs.Lasting.{no_run}
 use Rattle.aig_answers.proofs.liveness.runs.check_no_fair_run.Goals as goal
 

@@ -1,9 +1,4 @@
-use Rattle.aig_base.proofs.Words.{◌-◌, ◌<◌, ◌≢◌, Ok, Err, arith, eqb-false, false, get_or, length, slice_get-get_or, subst, sym}
-use Rattle.aig_circuit.specs.Circuit.{Circuit}
-use Rattle.aig_circuit.specs.View.{lists_circuit}
-use Rattle.aig_answers.specs.Plans.{AreTaken}
-use Rattle.aig_answers.specs.declared.plans.asking.Ask.TheVariants.{Step}
-use Rattle.aig_answers.specs.declared.plans.asking.Question.{Question}
+use Rattle.aig_answers.proofs.Words.{◌-◌, ◌<◌, ◌≢◌, Ok, Err, arith, eqb-false, false, get_or, length, slice_get-get_or, subst, sym, Circuit, lists_circuit, AreTaken, Step, Question}
 use Rattle.aig_answers.proofs.Planning.{after_it, all_hold, answered, kept, one_more}
 use Rattle.aig_answers.proofs.plans.checking.check.Goals as goal
 

@@ -1,6 +1,4 @@
-use Rattle.aig_base.proofs.Words.{ap, sym, ◌∙◌}
-use Rattle.aig_circuit.specs.View.{lists_circuit}
-use Rattle.aig_answers.specs.Plans.{room_of}
+use Rattle.aig_answers.proofs.Words.{ap, sym, ◌∙◌, lists_circuit, room_of}
 use Rattle.aig_answers.proofs.PlanRooms.{has_room}
 use Rattle.aig_answers.proofs.plans.checking.check_circuit.Goals as goal
 

@@ -1,7 +1,5 @@
-use Rattle.aig_base.proofs.Words.{◌<◌, Ok, Err, arith, false, get_or, length, slice_get-get_or}
+use Rattle.aig_answers.proofs.Words.{◌<◌, Ok, Err, arith, false, get_or, length, slice_get-get_or, Step, Question}
 use Rattle.aig_answers.proofs.Planning.{after_it, answered, kept, one_more}
-use Rattle.aig_answers.specs.declared.plans.asking.Ask.TheVariants.{Step}
-use Rattle.aig_answers.specs.declared.plans.asking.Question.{Question}
 use Rattle.aig_answers.proofs.plans.checking.check_first.Goals as goal
 
 abbrev none : Question

@@ -1,5 +1,4 @@
-use Rattle.aig_base.proofs.Words.{err_from_is_err_and, refl}
-use Rattle.aig_circuit.specs.View.{lists_circuit}
+use Rattle.aig_answers.proofs.Words.{err_from_is_err_and, refl, lists_circuit}
 use Rattle.aig_answers.proofs.Planning.{has_none}
 use Rattle.aig_answers.proofs.plans.checking.check_last.Goals as goal
 

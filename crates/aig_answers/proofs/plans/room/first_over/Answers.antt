@@ -1,8 +1,5 @@
-use Rattle.aig_base.proofs.Words.{◌≡◌, arith, cases_lt, false, false≢true, get_or, inl, inr, lt-ltb, nat_lt, sym, true}
+use Rattle.aig_answers.proofs.Words.{◌≡◌, arith, cases_lt, false, false≢true, get_or, inl, inr, lt-ltb, nat_lt, sym, true, size_of, Step, Question}
 use Rattle.aig_answers.proofs.PlanRooms.{position_is, position_none}
-use Rattle.aig_answers.specs.Plans.{size_of}
-use Rattle.aig_answers.specs.declared.plans.asking.Ask.TheVariants.{Step}
-use Rattle.aig_answers.specs.declared.plans.asking.Question.{Question}
 use Rattle.aig_answers.proofs.plans.room.first_over.Goals as goal
 
 abbrev none : Question

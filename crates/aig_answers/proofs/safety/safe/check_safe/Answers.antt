@@ -1,8 +1,4 @@
-use Rattle.aig_base.proofs.Words.{subst, sym, err_from_is_err_and}
-use Rattle.aig_circuit.specs.View.{lists_circuit}
-use Rattle.aig_reader.specs.Verdicts.{IsOfFile, verdict_by}
-use Rattle.aig_reader.proofs.Verdicts.{of_no_file}
-use Rattle.aig_answers.specs.Answers.{circuit_window_verdict, window_verdict}
+use Rattle.aig_answers.proofs.Words.{subst, sym, err_from_is_err_and, lists_circuit, IsOfFile, verdict_by, of_no_file, circuit_window_verdict, window_verdict}
 use Rattle.aig_answers.proofs.Answering.{read_lists}
 use Rattle.aig_answers.proofs.Verdicts.{judged, unread, window_alike, window_of_file}
 use Rattle.aig_answers.specs.Safety.{verdict_of}

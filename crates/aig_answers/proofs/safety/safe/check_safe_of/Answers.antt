@@ -1,8 +1,6 @@
-use Rattle.aig_base.proofs.Words.{All, Err, Ok, refl, subst, sym}
-use Rattle.aig_circuit.specs.Circuit.{Circuit, IsClosed}
+use Rattle.aig_answers.proofs.Words.{All, Err, Ok, refl, subst, sym, Circuit, IsClosed, lists_circuit, Tells, asked_with}
 use Rattle.aig_circuit.specs.Edges.{HasConstantInit}
-use Rattle.aig_circuit.specs.View.{lists_circuit}
-use Rattle.aig_answers.specs.Plans.{Holds, Tells, asked_with}
+use Rattle.aig_answers.specs.Plans.{Holds}
 use Rattle.aig_answers.specs.declared.plans.asking.Ask.TheVariants as asks
 use Rattle.aig_answers.proofs.WordsOfKinds.{first_told, window_told_of}
 use Rattle.aig_answers.proofs.safety.safe.check_safe_of.Goals as goal

@@ -1,6 +1,5 @@
-use Rattle.std.proofs.Common.{[], ◌∷◌, rules}
-use Rattle.hex.specs.Hex.{encode_lower}
-use Rattle.aig_output.proofs.Putting.{failed_first, then_call}
+use Rattle.aig_check_commands.proofs.Words.{rules, encode_lower, failed_first, then_call}
+use Rattle.std.proofs.Common.{[], ◌∷◌}
 use Rattle.aig_check_commands.proofs.titles.title.buffer_beside.Goals as goal
 
 pub returns-in_err-write_bytes-in-Some : goal.returns-in_err-write_bytes-in-Some

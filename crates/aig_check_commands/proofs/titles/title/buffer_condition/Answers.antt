@@ -1,6 +1,5 @@
-use Rattle.std.proofs.Common.{[], ◌∷◌, rules}
-use Rattle.aig_output.proofs.Putting.{Buffers-trans, failed_among, failed_first, then_call}
-use Rattle.aig_simulation.specs.Names.{condition_name}
+use Rattle.aig_check_commands.proofs.Words.{rules, Buffers-trans, failed_among, failed_first, then_call, condition_name}
+use Rattle.std.proofs.Common.{[], ◌∷◌}
 use Rattle.aig_check_commands.proofs.titles.title.buffer_condition.Goals as goal
 
 pub returns-in_err-write_bytes : goal.returns-in_err-write_bytes

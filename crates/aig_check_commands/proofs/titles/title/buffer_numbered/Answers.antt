@@ -1,6 +1,5 @@
-use Rattle.std.proofs.Common.{[], ◌∷◌, ◌++◌, decimal, rules}
-use Rattle.aig_output.proofs.Putting.{Buffers-trans, failed_among, failed_first, then_call}
-use Rattle.aig_check_commands.specs.Titles.{distinct_text}
+use Rattle.aig_check_commands.proofs.Words.{decimal, rules, Buffers-trans, failed_among, failed_first, then_call, distinct_text}
+use Rattle.std.proofs.Common.{[], ◌∷◌, ◌++◌}
 use Rattle.aig_check_commands.proofs.titles.title.buffer_numbered.Goals as goal
 
 pub returns-in_err-write_bytes : goal.returns-in_err-write_bytes

@@ -1,8 +1,6 @@
-use Rattle.std.proofs.Common.{[], ◌∷◌, rules}
-use Rattle.aig_base.proofs.Words.{codes}
-use Rattle.hex.specs.Hex.{encode_lower}
-use Rattle.aig_output.proofs.Putting.{Buffers-trans, failed_among, failed_first, then_call}
-use Rattle.aig_check_commands.specs.Titles.{beside_text, question_text, raw_text, title_text}
+use Rattle.aig_check_commands.proofs.Words.{rules, codes, encode_lower, Buffers-trans, failed_among, failed_first, then_call, beside_text, question_text, raw_text}
+use Rattle.std.proofs.Common.{[], ◌∷◌}
+use Rattle.aig_check_commands.specs.Titles.{title_text}
 use Rattle.aig_check_commands.proofs.titles.title.buffer_title.Goals as goal
 
 pub returns-in_err-write_bytes : goal.returns-in_err-write_bytes

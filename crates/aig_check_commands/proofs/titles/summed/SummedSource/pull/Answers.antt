@@ -1,6 +1,5 @@
 use Rattle.std.proofs.Common.{take}
-use Rattle.aig_base.proofs.Words.{false_from_ne_true, false≢true}
-use Rattle.std.proofs.Math.Logic.{∥∥₁_map}
+use Rattle.aig_check_commands.proofs.Words.{false_from_ne_true, false≢true, ∥∥₁_map}
 use Rattle.aig_check_commands.proofs.Summing.{failing, more}
 use Rattle.aig_check_commands.proofs.titles.summed.SummedSource.pull.Goals as goal
 
