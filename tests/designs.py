@@ -9,6 +9,7 @@ with a sign before a proof that is no step, where unit propagation alone doesn't
 
 Then some of the files are compared with what ABC makes of them, by each engine that guesses what corresponds: that is equal, as ABC's dsec
 says too, and with an output or the bad literal inverted the engine has no answer."""
+import json
 import os
 import re
 import shlex
@@ -84,10 +85,10 @@ def inverted(data):
 
 
 def needed(folder):
-    """The names of the proofs that are needed by a line of check.sh, beside unit propagation."""
-    for line in (folder / "check.sh").read_text().splitlines():
-        verb, *words = shlex.split(line) or [""]
-        if verb == "shows" and words[1] != "run":
+    """The names of the proofs that are needed by a line of what is kept, beside unit propagation."""
+    for step in json.loads((folder / "evidence.json").read_text())["steps"]:
+        words = [step.get("shows"), *step.get("by", [])]
+        if words[0] and words[1] != "run":
             equal = (6, 2) if words[4:5] == ["to"] else (5, 1)
             command = words[1].partition("-alike")[0]
             first, count = {"certified": (4, 2), "equal": equal, "safe": (5, 2)}.get(command, (5 if words[3] == "to" else 4, 1))

@@ -333,7 +333,7 @@ class Spread:
         return lines, done
 
     def plant(self, part, change):
-        """Puts a changed script of a folder into a new one."""
+        """Puts what is kept in a folder into a new one, with a change."""
         made = self.folder / "run" / f"planted-{part}"
         shutil.copytree(self.folder / "run" / part, made, symlinks=True)
         change(made)
@@ -341,12 +341,13 @@ class Spread:
 
 
 def swap(old, new):
-    """A change of a script."""
+    """A change of what shows a line."""
 
     def change(folder):
-        text = (folder / "check.sh").read_text()
-        assert old in text, (old, text)
-        (folder / "check.sh").write_text(text.replace(old, new))
+        text = (folder / "evidence.json").read_text()
+        kept = json.loads(text)
+        assert old in json.dumps(kept), (old, text)
+        (folder / "evidence.json").write_text(json.dumps(kept).replace(old, new))
 
     return change
 
@@ -375,16 +376,20 @@ def spread_faults(tally, folder):
     # Wrong lines and wrong proofs: without what shows them, no one is taken, and each is told of.
     run = folder / "run"
     plants = [
-        ("property-2-pdr", swap("'b0 at step 16'", "'b0 at step 3'")),
-        ("property-2-bmc3", swap("'b0 at step 16' run", "'no bad state at any step' run")),
+        ("property-2-pdr", swap('"b0 at step 16"', '"b0 at step 3"')),
+        ("property-2-bmc3", swap('"b0 at step 16", "by": ["run"', '"no bad state at any step", "by": ["run"')),
         ("property-0-pdr", emptied("step")),
-        ("property-1-pdr", swap("property file.aig", "property other.aig")),
+        ("property-1-pdr", swap('"property", "file.aig"', '"property", "other.aig"')),
     ]
     for part, change in plants:
         planted = made.plant(part, change)
         status, given, said = made.gathered()
         tally.wants(f"{part} planted", (10, wanted, True), (status, given, f"{planted.relative_to(folder)}: not shown: " in said))
         shutil.rmtree(planted)
+    planted = made.plant("property-0-pdr", swap('"steps"', '"stairs"'))
+    status, given, said = made.gathered()
+    tally.wants("another form", (10, wanted, True), (status, given, f"{planted.name}: evidence.json has another form" in said))
+    shutil.rmtree(planted)
     for part in ["property-0-pdr", "property-0-bmc3"]:
         shutil.rmtree(run / part)
     shutil.copytree(run / "property-1-pdr", run / "property-0-pdr")

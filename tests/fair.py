@@ -30,9 +30,10 @@ LATE = """import sys
 sys.path.insert(0, sys.argv.pop(1))
 from aigprove import command
 from aigprove.designs import yosys
+from aigprove.questions import justice
 def late(*_):
     raise yosys.TranslationTimeout("yosys is late")
-command.lives = late
+justice.lives = late
 command.main()
 """
 BOTH = """module top(input clk); reg q = 0; always @(posedge clk) q <= !q;

@@ -12,8 +12,8 @@ import time
 
 import harness
 from aigprove.circuits.aiger import Fault
-from aigprove.processes import scheduler
-from aigprove.processes.folder import Folder
+from aigprove.processes import groups, scheduler
+from aigprove.processes.files import Folder
 from aigprove.processes.scheduler import Scheduler, Scope, Stopped
 
 LONG = ["sleep", "60"]
@@ -83,6 +83,26 @@ def scopes(tally, made):
     tally.check(has_ended(groups[2]), "another scope doesn't end")
 
 
+def gone(tally, made):
+    """What an engine left running, in a session of its own too, is gone once the engine was ended, and its memory with it."""
+    groups.adopt()
+    scope = Scope(made)
+    main, engine = scope.task("main"), scope.task("pdr")
+    group = engine.start(["sh", "-c", "setsid sleep 60 & sleep 60 & sleep 60"])
+    tally.check(wait(lambda: left_by(group)), "nothing is left running")
+    scope.end_others(main)
+    tally.wants("gone", (None, set()), (state(group), set(groups.children()) - {made.keeper.process, group.process.pid}))
+    tally.check(main.output(["echo", "here"])[1] == "here\n", "the task that is left starts nothing")
+    scope.stop()
+
+
+def left_by(group):
+    """Whether a shell has started three programs, one of which has a session of its own."""
+    with open(f"/proc/{group.process.pid}/task/{group.process.pid}/children", encoding="ascii") as file:
+        started = file.read().split()
+    return len(started) == 3 and any(os.getsid(int(it)) == int(it) for it in started)
+
+
 def is_refused(task):
     """Whether a task starts nothing any more."""
     try:
@@ -134,11 +154,10 @@ def forks(tally, made):
 
 def main():
     tally = harness.Tally()
-    one, many = Scheduler(1), Scheduler(4)
-    turns(tally, one)
-    for test in scopes, answers, limits, forks:
-        test(tally, many)
-    for made in one, many:
+    for jobs, tests in (1, [turns]), (4, [scopes, gone, answers, limits, forks]):
+        made = Scheduler(jobs)
+        for test in tests:
+            test(tally, made)
         made.stop()
         os.kill(made.keeper.process, 9)
     return tally.end()

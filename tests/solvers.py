@@ -6,6 +6,7 @@ is wanted: the exit status, the lines of standard output and standard error (its
 left in the temporary folder, and no program that was started by an engine runs."""
 import contextlib
 import gzip
+import json
 import os
 import pty
 import re
@@ -72,6 +73,14 @@ class Run:
         """Whether a process has the environment of this run."""
         try:
             return f"FOLDER={self.folder}".encode() in Path("/proc", process, "environ").read_bytes().split(b"\0")
+        except OSError:
+            return False
+
+
+    def is_program(self, process, names):
+        """Whether a process runs one of these programs."""
+        try:
+            return Path("/proc", process, "comm").read_text().strip() in names
         except OSError:
             return False
 
@@ -232,6 +241,42 @@ def kept():
         yield "shown again", (0, SAFE, "", []), run.result(["--", f"{folder}/check.sh"], ["sh"])
 
 
+def strange():
+    """What somebody else wrote in evidence.json: words are no commands and no patterns, and names lead to no other folder."""
+    with running(STUCK, REFUTES, ANYTHING) as run:
+        yield "kept", (20, SAFE, "", []), run.result(["--engine", "pdr", "--keep", "kept"])
+        run.environment |= {"AIGCHECK": GIVEN["aigcheck"], "AIGEDIT": GIVEN["aigedit"]}
+        script, path = (run.folder / "kept" / name for name in ["check.sh", "evidence.json"])
+        yield "one script", (TOP / "lib/aigprove/output/check.py").read_bytes(), script.read_bytes()
+        good = json.loads(path.read_text())
+        first = {**good["steps"][0], "by": ["certified", "*", "$(touch $FOLDER/made)", "; touch $FOLDER/made", "`touch $FOLDER/made`"]}
+        sums = {name: "0" * 64 for name in good["files"]}
+        for change, status, printed, why in [
+            ({}, 0, SAFE, ""),
+            ({"steps": [first]}, 1, "", "not shown: no bad state at any step\n"),
+            ({"steps": [{**good["steps"][0], "shows": "no bad state\x1b[2J"}]}, 1, "", "not shown: no bad state\\x1b[2J\n"),
+            ({"files": sums}, 1, "", f"not shown: {list(sums)[0]} is another file\n"),
+            ({"parts": [".."]}, 1, "", "not shown: .. is no folder in this one\n"),
+            ({"parts": ["a/../.."]}, 1, "", "not shown: a/../.. is no folder in this one\n"),
+            ({"steps": [{"says": "\x1b]0;t\x07"}]}, 0, "\\x1b]0;t\\x07\n", ""),
+            ({"steps": 1}, 1, "", "not shown: "),
+        ]:
+            path.write_text(json.dumps({**good, **change}))
+            given = run.result(["kept/check.sh"], ["sh"])
+            yield compared(change, (status, printed, why.rstrip("\n")), (given[0], given[1], last_of(given[2]), given[3]))
+        path.write_text("[")
+        yield "no evidence", (1, "", True), (*run.result(["kept/check.sh"], ["sh"])[:2], True)
+        run.environment["AIGCHECK"] = "./none"
+        path.write_text(json.dumps(good))
+        yield "no program", (1, "", "not shown: ./none is not there\n", []), run.result(["kept/check.sh"], ["sh"])
+        yield "nothing was made", False, (run.folder / "made").exists()
+
+
+def last_of(said):
+    """The last line of what is said, behind what aigcheck says itself."""
+    return said.splitlines()[-1] if said else ""
+
+
 # A program in the place of aigcheck or aigedit, which wants a limit of nodes as its first words.
 LIMITED = '#!/bin/sh\n[ "$1 $2" = "--limit 9" ] || exit 9\nshift 2\nexec {} "$@"\n'
 
@@ -316,6 +361,22 @@ def closed():
             yield redirection, (10, REACHED, "", []), run.result([], ["sh", "-c", f"{line} --engine windows,bmc3 {redirection}"])
 
 
+def gone():
+    """Engines that hang, and what they left running, are gone before the last line is printed."""
+    hang = "trap '' TERM INT; setsid sleep 1000 & touch $FOLDER/started; sleep 1000"
+    waits = "while [ ! -e $FOLDER/started ]; do sleep 0.01; done"
+    for file, solver, options, last in [
+        (TOGGLE, f"{waits}; {SOLVES}", ["-q"], "a bad state at step 1: b0\n"),
+        (STUCK, f"{waits}; {REFUTES}", ["-q", "--engine", "pdr,windows"], "no bad state at any step\n"),
+        (STUCK, "exit 3", ["-q", "--engine", "pdr", "--timeout", "1"], "nothing was shown\n"),
+    ]:
+        with running(file, solver, hang) as run:
+            process = run.start([*run.words, *options])
+            line, left = process.stdout.readline(), [it for it in run.left() if run.is_program(it, ["sh", "sleep"])]
+            finish(process)
+            yield options, (last, []), (line, left)
+
+
 def ended():
     """Signals while engines run: all is ended and removed in time, and the status tells which. On a quiet machine that is a tenth
     of a second."""
@@ -365,8 +426,8 @@ def main():
     # Where this is run in the background, what it starts has to end by SIGINT still.
     signal.signal(signal.SIGINT, signal.default_int_handler)
     tally = harness.Tally()
-    parts = [answers, files, fed, worded, faulty, kept, limited, bounded_memory]
-    parts += [hung, together, yielding, closed, ended, killed, missing, installed]
+    parts = [answers, files, fed, worded, faulty, kept, strange, limited, bounded_memory]
+    parts += [hung, together, yielding, closed, gone, ended, killed, missing, installed]
     for part in parts:
         with tally.test(part.__name__):
             for what, wanted, given in part():

@@ -3,9 +3,10 @@ first inputs and latches are the file's, in order, with their resets and next va
 property is inductive and implies the file's. Nothing here is believed."""
 from collections.abc import Callable, Iterable, Iterator, Mapping
 
-from aigprove.circuits.aiger import Circuit, symbols, text_form
-from aigprove.circuits.gates import Gates, literals_of
-from aigprove.questions.conditions import STANDS
+from aigprove.circuits.aiger import Circuit, Gates, literals_of, symbols, text_form
+
+# How a name begins that says for which literal of a file a leaf stands.
+STANDS = b"= "
 
 
 class Frame:

@@ -1,5 +1,4 @@
 """Runs without the values that don't matter."""
-import dataclasses
 import time
 from collections.abc import Callable, Iterable, Sequence
 
@@ -26,8 +25,8 @@ def without(trace: Witness, places: Iterable[Place]) -> Witness:
     rows = [list(row) for row in [trace.start, *trace.steps]]
     for t, i in places:
         rows[t][i] = "x"
-    return dataclasses.replace(trace,
-                               start="".join(rows[0]), steps=["".join(row) for row in rows[1:]])
+    start, *steps = map("".join, rows)
+    return trace._replace(start=start, steps=steps)
 
 
 def simulated(circuit: Circuit, trace: Witness,

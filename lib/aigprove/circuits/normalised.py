@@ -1,16 +1,118 @@
-"""The machine of a file as every model checker reads it: all latches 0 initially, outputs that are
-1 in bad states, no constraints.
+"""What ABC is given and what it writes: the machine of a file as every model checker reads it,
+counterexamples (write_cex), and invariants in PLA form.
 
-A latch that is 1 at first is inverted; one that is open at first takes an input's value at step 0,
-while the latch `began` is 0; and the latch `broken` is 1 once a constraint didn't hold. A machine
-without latches gets one that is spare. Inputs and latches are named by their places in the file
-(i0, l0), and the value of an open latch l0 is the input r0, so that what an engine says is told by
-names."""
-from collections.abc import Sequence
+All latches of that machine are 0 initially, its outputs are 1 in bad states, and it has no
+constraints. A latch that is 1 at first is inverted; one that is open at first takes an input's
+value at step 0, while the latch `began` is 0; and the latch `broken` is 1 once a constraint didn't
+hold. A machine without latches gets one that is spare. Inputs and latches are named by their places
+in the file (i0, l0), and the value of an open latch l0 is the input r0, so that what an engine says
+is told by names."""
+import re
+from collections.abc import Mapping, Sequence
 
-from aigprove.circuits.abc_output import BEGAN, BROKEN, SPARE, Named, excluded_by
-from aigprove.circuits.aiger import Circuit, decoded, text_form
-from aigprove.circuits.gates import Gates, binary, literals_of
+from aigprove.circuits.aiger import Circuit, Fault, Gates, binary, decoded, literals_of, text_form
+
+# A value of ABC's counterexample: the name of an input or latch, the step and the value.
+NAMED = re.compile(r"(.+)@([0-9]{1,9})=([01])", re.DOTALL)
+OWN = re.compile("pi[0-9]{1,9}")
+LENGTH = re.compile("^# COUNTEREXAMPLE LENGTH: ([0-9]{1,9})$", re.MULTILINE)
+# How many steps a counterexample may have.
+LONGEST = 1 << 20
+# Which of several outputs a counterexample is of; and a line of an invariant.
+FOUND = re.compile(r"^# CEX for output ([0-9]{1,9})$", re.MULTILINE)
+PLA = re.compile(r"^\.ilb ", re.MULTILINE)
+# Latches that a normalised model has besides the file's, and their values from step 1 on, in a run
+# that meets the constraints.
+BEGAN, BROKEN, SPARE = "began", "broken", "spare"
+FIXED = {BEGAN: "1", BROKEN: "0", SPARE: "0"}
+
+
+class Named:
+    """The values that `write_cex -n` of ABC writes, by the step and the name, and the length."""
+
+    def __init__(self, text: str) -> None:
+        self.values: dict[tuple[int, str], str] = {}
+        for line in text.split("\n"):
+            if named := NAMED.fullmatch(line):
+                self.values[int(named[2]), named[1]] = named[3]
+        said = LENGTH.search(text)
+        last = max((t for t, _ in self.values), default=-1)
+        self.length = int(said[1]) if said else 1 + last
+
+    def rows(self, names: Sequence[str]) -> list[str]:
+        """Returns a value for each of these names in each step.
+
+        A name that isn't there at some step has the value 0."""
+        # There is a line for each name and step.
+        if self.length > LONGEST or self.length * len(names) > 2 * len(self.values):
+            raise Fault("its counterexample has too many steps")
+        return ["".join(self.values.get((t, name), "0") for name in names)
+                for t in range(self.length)]
+
+
+def parted(found: str) -> list[tuple[int, str]]:
+    """Returns the place of the output and the text of each counterexample.
+
+    If none has a place there is one of the first output."""
+    first, *others = FOUND.split(found)
+    if not others:
+        return [(0, first)] if "@0=" in first else []
+    return [(int(place), text) for place, text in zip(others[::2], others[1::2])]
+
+
+def of_abc(text: str, circuit: Circuit) -> tuple[str, list[str]] | None:
+    """Returns the initial state and the inputs of each step in a counterexample of ABC's.
+
+    It may have either of its forms; None if it has none. The values behind the file's own inputs
+    are those of uninitialised latches, as ABC's `undc` makes them."""
+    rows = named_rows(text, circuit) if "@0=" in text else plain_rows(text)
+    count = len(circuit.inputs)
+    if not rows or any(len(row) < count for row in rows):
+        return None
+    start = ["1" if reset == 1 else "0" for reset in circuit.resets]
+    for i, given in zip(circuit.opened(), rows[0][count:]):
+        start[i] = given
+    return "".join(start), [row[:count] for row in rows]
+
+
+def plain_rows(text: str) -> list[str]:
+    """Returns the inputs of each step in what `write_cex -a` writes, behind a line of the state."""
+    lines = text.replace("# DONE", "").split("\n")[1:]
+    return [line for line in lines if re.fullmatch("[01]+", line)]
+
+
+def named_rows(text: str, circuit: Circuit) -> list[str]:
+    """Returns the inputs of each step in what `write_cex -n` writes.
+
+    They have their names or ABC's own (pi0, pi1 ..). Those of step 0 that ABC put behind them come
+    behind them."""
+    named = Named(text)
+    numbered = {int(name[2:]): name for t, name in named.values if t == 0 and OWN.fullmatch(name)}
+    names = [circuit.name("i", i).decode("utf-8", "replace") for i in range(len(circuit.inputs))]
+    rows = named.rows([name if (0, name) in named.values else numbered.get(i, name)
+                       for i, name in enumerate(names)])
+    others = "".join(named.values[0, numbered[i]] for i in sorted(numbered) if i >= len(names))
+    return [rows[0] + others, *rows[1:]] if rows else []
+
+
+def excluded_by(pla: str, places: Mapping[str, int]) -> list[list[int]] | None:
+    """Returns the cubes of an invariant in PLA form, as literals, by those of the latches, where
+    the further latches have their fixed values. None if it has no such form, or a name that is
+    none of these."""
+    names, excluded = None, []
+    for words in filter(None, map(str.split, pla.splitlines())):
+        if words[0] == ".ilb":
+            # A name may have spaces.
+            names = list(places) if words[1:] == " ".join(places).split() else words[1:]
+        elif words[0][0] in "01-":
+            if names is None or len(words[0]) != len(names):
+                return None
+            cube = [(name, bit) for name, bit in zip(names, words[0]) if bit != "-"]
+            if all(FIXED.get(name, bit) == bit for name, bit in cube):
+                excluded.append([(name, bit) for name, bit in cube if name not in FIXED])
+    if names is None or any(name not in places for cube in excluded for name, _ in cube):
+        return None
+    return [[places[name] ^ (bit == "1") for name, bit in cube] for cube in excluded]
 
 
 class NormalisedModel:

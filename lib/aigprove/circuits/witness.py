@@ -1,16 +1,14 @@
 """Runs to a bad state, as witnesses of the AIGER report."""
 from __future__ import annotations
 
-import dataclasses
 import re
 from collections.abc import Sequence
-from dataclasses import dataclass
+from typing import NamedTuple
 
 from aigprove.circuits.aiger import Fault, Header, Lines
 
 
-@dataclass(frozen=True)
-class Witness:
+class Witness(NamedTuple):
     """Which bad state or justice property a run shows, and the run.
 
     That is a value for each latch initially, and for each step a value for each input."""
@@ -27,7 +25,7 @@ class Witness:
 
     def showing(self, bad: int) -> Witness:
         """Returns the same run as a witness of another property."""
-        return dataclasses.replace(self, bad=bad)
+        return self._replace(bad=bad)
 
     def lasso(self, number: int, latches: int) -> Witness:
         """Returns the lasso that a run of a live file is, of a file with so many latches.

@@ -1,6 +1,7 @@
 """Which files are of designs, what reads them, and the cells of what is asked about them."""
-import re
 from typing import NamedTuple
+
+from aigprove.circuits.aiger import Fault
 
 # By the end of a file's name: what reads it, with the words for what is Verilog. The latches of
 # BLIF have one clock.
@@ -35,11 +36,11 @@ STRICT = Way("-ppdump -noautowire", "-ppdump -noautowire", NONE)
 LOOKING = Way("-ppdump -dump_ast1", "-dump_ast1", WIRE)
 AGAIN = Way("-nopp -dump_ast1", "-dump_ast1", WIRE)
 DECLARED, DECLARED_LATER = Way("-nopp -noautowire", "", NONE), Way("-nopp", "", WIRE)
-# What yosys says of such a name where it is refused, and where it isn't.
-REFUSED = re.compile(r"^(.*): ERROR: Identifier `(\S+)' is implicitly declared and "
-                     r"`default_nettype is set to none\.", re.MULTILINE)
-WARNED = re.compile(r"^(.*): Warning: Identifier `(\S+)' is implicitly declared\.$", re.MULTILINE)
 ASSERT, COVER, LIVE, FAIR = "$assert", "$cover", "$live", "$fair"
+
+
+class TranslationTimeout(Fault):
+    """The time was over before there was a file to ask about."""
 
 
 class File(NamedTuple):

@@ -14,32 +14,27 @@ from collections.abc import Iterator, Mapping, Sequence
 from typing import NamedTuple
 
 from aigprove.circuits.aiger import Fault, encoded
-from aigprove.designs.front_ends import DECLARED, DECLARED_LATER, REFUSED, WARNED
-from aigprove.designs.rtlil import INTERFACE, check_names, modules_of, source_of
+from aigprove.designs.front_ends import DECLARED, DECLARED_LATER
+from aigprove.designs.modules import (INTERFACE, JOINED, check_names, dots_in, source_of,
+                                      width_of)
+from aigprove.designs.rtlil import Statement, modules_of
 from aigprove.designs.texts import Text
-from aigprove.designs.yosys import Yosys
+from aigprove.designs.yosys import REFUSED, WARNED, Yosys
 
 # A node of a syntax tree, as yosys prints it.
 NODE = re.compile(r"^( *)AST_(\w+) <(.*):(\d+)\.\d+-\d+\.\d+> \[0x[0-9a-f]+\]"
                   r"(?: str='(\S*?)'(?= |$))?(?: bits='([01xz]*)')?", re.MULTILINE)
 GENERATED = {"GENBLOCK", "GENFOR", "GENIF", "GENCASE"}
-# What a module has, in yosys's own language: nets that the design names, with what stands before
-# them, and cells, memories and parameters.
-NET = re.compile(r"((?:\n  attribute [^\n]*)*)\n  wire ((?:[a-z]+ (?:-?[0-9]+ )?)*)(\\\S+)(?=\n)")
-CELL = re.compile(r"\n  cell (\S+) (\\\S+)(?=\n)")
-OTHER = re.compile(r"\n  (memory|parameter) (?:[a-z]+ -?[0-9]+ )*(\\\S+)(?=[ \n])")
-SOURCE = re.compile(r'\n  attribute \\src "([^"]*:[0-9]+)\.[^"]*"')
-ATTRIBUTE = re.compile(r"\n  attribute \\(\S+)")
-JOINED, UNKNOWN = "hierconn", "aigprove_unknown"
-JOINED_NET = re.compile(rf"\n  attribute \\{JOINED} 1(?:\n  attribute [^\n]*)*\n  wire [^\n]*")
-# What is driven in a module, and the ports of its cells; and outputs of yosys's own cells.
-DRIVEN = re.compile(r"\n(?:  connect|  +(?:assign|update|memwr)) (\{[^}]*\}|\S+)")
-INSTANCE = re.compile(r"\n  cell (\S+) \\\S+\n(.*?)(?=\n  end)", re.DOTALL)
-PORT = re.compile(r"^    connect (\\\S+) (.*)$", re.MULTILINE)
+# The line of a place in the design's text; the attribute of a net that no name stands for; and
+# outputs of yosys's own cells.
+LINE = re.compile(r"(.*:[0-9]+)\..*")
+UNKNOWN = "aigprove_unknown"
+# The attributes of nets that are declared here.
+MADE = {JOINED, f"\\{UNKNOWN}"}
 OUTPUTS = {f"\\{port}" for port in ["Y", "Q", "X", "CO", "LO", "O", "DATA", "RD_DATA"]}
 INDEX = re.compile(r"(.*)\[[0-9]+\]")
 # Attributes of a net that yosys may drop where it joins the net with another.
-HARMLESS = re.compile(r"src|wiretype|enum_\w+|hdlname|hierconn|aigprove_unknown")
+HARMLESS = re.compile(r"\\(src|wiretype|enum_\w+|hdlname|hierconn|aigprove_unknown)")
 ABOVE = "a name is read if its path goes down from the module in which it stands, " \
     "through instances and named blocks, to a net or variable"
 LATER = "its block is read later: use it behind the block"
@@ -55,12 +50,11 @@ class Shape(NamedTuple):
     is_signed: bool
 
     @classmethod
-    def of(cls, words: str) -> Shape:
-        """Returns the shape of a net with these words in yosys's own language."""
-        it = words.split()
-        width, offset = (int(it[it.index(word) + 1]) if word in it else least
-                         for word, least in [("width", 1), ("offset", 0)])
-        return cls(width, offset, "upto" in it, "signed" in it)
+    def of(cls, wire: Statement) -> Shape:
+        """Returns the shape of a net."""
+        words = wire.words()[:-1]
+        offset = int(words[words.index("offset") + 1]) if "offset" in words else 0
+        return cls(width_of(wire), offset, "upto" in words, "signed" in words)
 
     def __str__(self) -> str:
         """Returns the shape as a declaration in Verilog has it."""
@@ -70,13 +64,20 @@ class Shape(NamedTuple):
 
 
 class Net(NamedTuple):
-    """A net that a module declares, with its words and its attributes."""
+    """A net that a module declares: whether it is an input, its place and its attributes."""
 
     name: str
     shape: Shape
-    words: tuple[str, ...]
+    is_input: bool
     place: str
-    attributes: tuple[str, ...]
+    attributes: frozenset[str]
+
+    @classmethod
+    def of(cls, wire: Statement) -> Net:
+        """Returns the net that a statement declares."""
+        place = LINE.fullmatch(wire.source)
+        return cls(wire.name, Shape.of(wire), "input" in wire.words()[:-1],
+                   place[1] if place else "", frozenset(wire.attributes))
 
 
 class Node(NamedTuple):
@@ -100,47 +101,41 @@ class Use(NamedTuple):
 
 
 class Module:
-    """What a module has in yosys's own language."""
+    """What a module has that the design names: nets, cells, and memories and parameters."""
 
-    def __init__(self, text: str) -> None:
-        self.text = text
-        nets = [Net(name, Shape.of(words), tuple(words.split()), *attributed(before))
-                for before, words, name in NET.findall(text)]
-        self.nets = {net.name: net for net in nets}
-        self.cells = {name: kind for kind, name in CELL.findall(text)}
-        self.others = {name: kind for kind, name in OTHER.findall(text)}
+    def __init__(self, module: Statement) -> None:
+        self.module = module
+        named = [it for it in module.of("wire", "cell", "memory", "parameter")
+                 if it.name.startswith("\\")]
+        self.nets = {it.name: Net.of(it) for it in named if it.kind == "wire"}
+        self.cells = {it.name: it.type for it in named if it.kind == "cell"}
+        self.others = {it.name: it.kind for it in named if it.kind in ("memory", "parameter")}
 
     def is_used(self, name: str) -> bool:
         """Returns whether anything but its declaration names a net."""
-        return len(re.findall(rf" {re.escape(name)}(?=[ \n])", self.text)) > 1
+        return sum(it.words().count(name) for it in self.module.all()) > 1
 
-    def without(self, name: str) -> str:
-        """Drops a net that nothing uses, and gives the text then."""
-        own = re.escape(name)
-        wire = re.compile(rf"(?:\n  attribute [^\n]*)*\n  wire (?:[^\n]* )?{own}(?=\n)")
-        self.text = wire.sub("", self.text, count=1)
-        return self.text
+    def drop(self, name: str) -> None:
+        """Drops a net that nothing uses."""
+        self.module.body = [it for it in self.module.body if it.kind != "wire" or it.name != name]
 
     def is_output(self, port: str) -> bool:
         """Returns whether something in the module may drive a port."""
         net = self.nets.get(port)
-        return net is None or "input" not in net.words
+        return net is None or not net.is_input
 
     def driven(self, modules: Mapping[str, Module]) -> set[str]:
         """Returns the names of the nets that something in the module drives."""
-        found = {name for target in DRIVEN.findall(self.text) for name in target.split()}
-        for kind, ports in INSTANCE.findall(self.text):
-            own = modules.get(kind)
-            for port, signal in PORT.findall(ports):
-                if own.is_output(port) if own else port in OUTPUTS:
-                    found.update(signal.split())
-        return found
-
-
-def attributed(before: str) -> tuple[str, tuple[str, ...]]:
-    """Returns the place of a net with these lines of attributes, and their names."""
-    place = SOURCE.search(before)
-    return place[1] if place else "", tuple(ATTRIBUTE.findall(before))
+        assigned = [own for it in self.module.of("process") for own in it.all()
+                    if own.kind in ("assign", "update", "memwr")]
+        signals = [it.signals()[0] for it in [*self.module.of("connect"), *assigned]]
+        for cell in self.module.of("cell"):
+            own = modules.get(cell.type)
+            ports = [(port[0].name, signal) for port, signal in
+                     (it.signals() for it in cell.of("connect"))]
+            signals += [signal for port, signal in ports
+                        if (own.is_output(port) if own else port in OUTPUTS)]
+        return {part.name for signal in signals for part in signal}
 
 
 def warned(said: str) -> set[tuple[str, str]]:
@@ -218,12 +213,12 @@ def ends_with_0(bounds: Node) -> bool:
 
 
 class Hierarchy:
-    """All modules of a design in yosys's own language, in which names are looked up: those with
-    these places aren't declared."""
+    """All modules of a design, in which names are looked up: those with these places aren't
+    declared."""
 
-    def __init__(self, text: str, trees: Trees, places: set[tuple[str, str]]) -> None:
-        self.modules, self.trees, self.places = {
-            name: Module(own) for name, own in modules_of(text).items()}, trees, places
+    def __init__(self, design: Statement, trees: Trees, places: set[tuple[str, str]]) -> None:
+        self.modules = {name: Module(own) for name, own in modules_of(design).items()}
+        self.trees, self.places = trees, places
 
     def found(self, kind: str, path: str) -> Iterator[tuple[str, str]]:
         """Yields what a path down from a module may be: pairs of a module and the name there of a
@@ -234,7 +229,7 @@ class Hierarchy:
         name = f"\\{path}"
         if name in module.others or self.is_declared(module.nets.get(name)):
             yield kind, name
-        for end in (found.start() for found in re.finditer(r"\.", path)):
+        for end in dots_in(path):
             if cell := module.cells.get(f"\\{path[:end]}"):
                 self.check_array(kind, path[:end])
                 yield from self.found(cell, path[end + 1:])
@@ -243,7 +238,7 @@ class Hierarchy:
         """Returns whether the design declares a net, or Verilog does: a path that yosys took for a
         net isn't one."""
         is_path = net is not None and "." in net.name and (net.place, net.name) in self.places
-        return net is not None and not is_path and not {JOINED, UNKNOWN} & set(net.attributes)
+        return net is not None and not is_path and not MADE & net.attributes
 
     def implicit(self, kind: str) -> list[Net]:
         """Returns the nets of a module that yosys declared by itself."""
@@ -254,12 +249,12 @@ class Hierarchy:
         """Returns whether a net of a module is of one of its interfaces: yosys declares it later,
         when it knows the interface."""
         module, first = self.modules[kind], net.name.partition(".")[0]
-        return (first in module.nets and "is_interface" in module.nets[first].attributes
+        return (first in module.nets and INTERFACE in module.nets[first].attributes
                 or self.is_interface(module.cells.get(first)))
 
     def is_interface(self, kind: str | None) -> bool:
         """Returns whether a module is an interface."""
-        return kind in self.modules and INTERFACE in self.modules[kind].text
+        return kind in self.modules and INTERFACE in self.modules[kind].module.attributes
 
     def check_array(self, kind: str, cell: str) -> None:
         """Refuses an instance of an array whose indices yosys doesn't keep."""
@@ -280,9 +275,9 @@ class Hierarchy:
             raise Fault(f"it is a {module.others[name]} of {source_of(owner)}, "
                         "and nets and variables are read: let a net have its value")
         net = module.nets[name]
-        if lost := [it for it in net.attributes if not HARMLESS.fullmatch(it)]:
-            raise Fault(
-                f"yosys would drop its attribute {lost[0]}: let a net without one have its value")
+        if lost := sorted(it for it in net.attributes if not HARMLESS.fullmatch(it)):
+            raise Fault(f"yosys would drop its attribute {lost[0][1:]}: "
+                        "let a net without one have its value")
         return net.shape
 
 
@@ -297,9 +292,9 @@ class Names:
         self.known: dict[tuple[str, str], Net] = {}
         self.forbidding = {name for text in self.texts.values()
                            for name, *_, is_allowed in text.spans() if not is_allowed}
-        self.text = yosys.text("below.il")
-        below, every = (Hierarchy(text, self.trees, self.places)
-                        for text in [self.text, yosys.text("all.il")])
+        self.design = yosys.design("below.il")
+        below, every = (Hierarchy(design, self.trees, self.places)
+                        for design in [self.design, yosys.design("all.il")])
         for kind, net in ((kind, net) for kind in below.modules for net in below.implicit(kind)):
             self.declare(below, kind, net)
         # What a module has that isn't used, or not so: a name there stands for nothing.
@@ -356,8 +351,9 @@ class Names:
         if not found:
             return None
         place, name = found.groups()
-        why = LATER if f"{name}\n" in self.text else ABOVE if "." in name else UNKNOWN_NAME
-        return self.fault(Net(name, Shape(1, 0, False, False), (), place, ()), why)
+        is_later = any(it.text.endswith(name) for it in self.design.all())
+        why = LATER if is_later else ABOVE if "." in name else UNKNOWN_NAME
+        return self.fault(Net(name, Shape(1, 0, False, False), False, place, frozenset()), why)
 
     def declaring(self) -> dict[str, bytes]:
         """Returns the texts of the Verilog files with these declarations."""
@@ -365,31 +361,30 @@ class Names:
                  for module, own in self.declared.items()}
         return {path: text.with_lines(lines) for path, text in self.texts.items()}
 
-    def checked(self, text: str, said: str) -> str:
+    def checked(self, design: Statement, said: str) -> Statement:
         """Returns the design as yosys read it with these declarations, without those that a module
         doesn't use, once it is checked that each other one is what it is joined with, and that
         nothing is written by it. Yosys said this of it."""
-        hierarchy = Hierarchy(text, self.trees, warned(said))
+        hierarchy = Hierarchy(design, self.trees, warned(said))
         for kind, module in hierarchy.modules.items():
             for net in hierarchy.implicit(kind):
                 if net.name not in self.declared[source_of(kind)] or "." in net.name:
                     raise self.fault(net, "where a script of yosys reads it, or a module has "
                                      "interfaces, it has to be declared")
-            for net in [it
-                        for it in module.nets.values() if {JOINED, UNKNOWN} & set(it.attributes)]:
+            for net in [it for it in module.nets.values() if MADE & it.attributes]:
                 if module.is_used(net.name):
                     self.check(hierarchy, kind, net)
                 else:
-                    text = text.replace(module.text, module.without(net.name))
-        check_names(modules_of(JOINED_NET.sub("", text)))
-        return text
+                    module.drop(net.name)
+        check_names(modules_of(design), passed=JOINED)
+        return design
 
     def check(self, hierarchy: Hierarchy, kind: str, net: Net) -> None:
         """Refuses a declared net that isn't what it is joined with, or that is written."""
         first = self.known.get((source_of(kind), net.name), net)
         try:
-            is_same = UNKNOWN not in net.attributes and hierarchy.signal(kind,
-                                                                         net.name[1:]) == net.shape
+            is_same = f"\\{UNKNOWN}" not in net.attributes \
+                and hierarchy.signal(kind, net.name[1:]) == net.shape
         except Fault as why:
             raise self.fault(first, why) from None
         if not is_same:

@@ -5,21 +5,20 @@ from collections.abc import Container, Iterable, Iterator, Mapping, Sequence
 
 from aigprove import data
 from aigprove.circuits.aiger import Fault
-from aigprove.designs import rtlil, scripts
-from aigprove.designs.front_ends import (AGAIN, ASSERT, COVER, FAIR, FRONTS, LIVE, LOOKING, REFUSED,
-                                         STRICT, VERILOG, WARNED, File, Way)
-from aigprove.designs.rtlil import Cell, base_of, modules_of, source_of
+from aigprove.designs import modules, scripts
+from aigprove.designs.front_ends import (AGAIN, ASSERT, COVER, FAIR, FRONTS, LIVE, LOOKING, STRICT,
+                                         VERILOG, File, Way)
+from aigprove.designs.modules import BOX, JOINED, TOP, Cell, base_of, opened, source_of, types_of
+from aigprove.designs.rtlil import Statement, modules_of, write
 from aigprove.designs.texts import BIND, Text, bound, expanded, moved
-from aigprove.designs.yosys import Run, Yosys
+from aigprove.designs.yosys import REFUSED, WARNED, Run, Yosys
 from aigprove.options.options import DesignOptions
 from aigprove.processes.scheduler import Task
 
 KINDS = {"$assert": "assertion", "$assume": "assumption",
          "$cover": "cover", "$live": "liveness assertion", "$fair": "fairness assumption"}
-BOX, TOP = (f"\nattribute \\{name} 1\n" for name in ["blackbox", "top"])
 ASKED = ("$assert", "$assume")
 WORD = re.compile(r"[A-Za-z_][A-Za-z0-9_$]*")
-PARAMETER = re.compile(r"^  parameter \\(\S+)", re.MULTILINE)
 # By what yosys says: what to do.
 HINTS = {
     "is not part of the design": "give its file too, or its ports alone, as an empty module",
@@ -63,14 +62,14 @@ class ReadDesign:
         """Reads the design as far as its top module has it, and gives lines of what isn't asked
         about."""
         every, below = self.read_below(top and f"-top {top}" or "-auto-top")
-        others = [] if top else [name for name in rtlil.roots_of(every) if name not in below]
+        others = [] if top else [name for name in modules.roots_of(every) if name not in below]
         # Where yosys takes one without an assertion: the one below which most are, or the last of
         # these.
         better = max(reversed(others),
-                     key=lambda name: asked_below(every, rtlil.reached(every, name)), default="")
-        is_better = asked_below(every, rtlil.reached(every, better)) and WORD.fullmatch(better)
+                     key=lambda name: asked_below(every, modules.reached(every, name)), default="")
+        is_better = asked_below(every, modules.reached(every, better)) and WORD.fullmatch(better)
         if not asked_below(every, below) and is_better:
-            others = [name for name in rtlil.roots_of(every) if name != better]
+            others = [name for name in modules.roots_of(every) if name != better]
             self.read_on()
             every, below = self.read_below(f"-top {better}")
         if self.options.parameter:
@@ -105,29 +104,37 @@ class ReadDesign:
         """Begins to read the design as far as a top module has it, and gives all its cells, and the
         names of the top module and those below."""
         try:
-            text = self.declared(top)
+            design = self.declared(top)
         except Fault as why:
             told = self.yosys.told(str(why))
             hints = (hint for said, hint in HINTS.items() if said in told)
             raise type(why)("; ".join([told, *hints])) from None
-        if place := rtlil.item_of_x(text):
+        if place := modules.item_of_x(design):
             raise Fault(f"{self.yosys.told(place)}: an item of this case is x or z")
-        modules = modules_of(text)
-        rtlil.check_constants(modules)
-        below = {base_of(name) for name in modules}
-        covers, lives = (f"\n  cell {kind} " in text for kind in (COVER, LIVE))
-        self.has_covers, self.has_lives = covers, lives and not self.options.multiclock
-        self.partial = scripts.TOTAL if scripts.PARTIAL.search(text) else ""
-        self.memories = (scripts.MEMORIES
-                         if scripts.MEMORY.search(text) else "{edges}").format(edges=self.edges())
+        found, types = modules_of(design), types_of(design)
+        modules.check_constants(found)
+        below = {base_of(name) for name in found}
+        self.has_covers = COVER in types
+        self.has_lives = LIVE in types and not self.options.multiclock
+        self.partial = scripts.TOTAL if types & scripts.PARTIAL else ""
+        has_memories = any(module.of("memory") for module in found.values()) \
+            or any(kind.startswith(scripts.MEMORY) for kind in types)
+        self.memories = (scripts.MEMORIES if has_memories else "{edges}").format(edges=self.edges())
         if not below:
             raise Fault(f"{self.yosys.path} has no module")
-        self.top = next((base_of(name) for name, own in modules.items() if TOP in own), "")
+        self.top = next((base_of(name) for name, own in found.items() if TOP in own.attributes), "")
         if not self.top:
             raise Fault(f"{self.yosys.path} has no module that isn't empty or a black box")
-        self.yosys.put("below.il", rtlil.opened(rtlil.by_modules(rtlil.renamed,
-                                                                 self.freed_boxes(text, modules))))
-        return list(rtlil.cells_of(self.yosys.text("all.il"))), below
+        self.free_boxes(found, types)
+        for module in found.values():
+            modules.renamed(module)
+        opened(design)
+        self.yosys.put("below.il", write(design))
+        return list(modules.cells_of(self.every())), below
+
+    def every(self) -> Statement:
+        """Returns the design with all its modules, also those that aren't below the top."""
+        return self.yosys.design("all.il")
 
     def begin(self, top: str,
               way: Way, texts: Mapping[str, bytes], before: Sequence[int] = ()) -> Run:
@@ -150,7 +157,7 @@ class ReadDesign:
         """Returns the texts of the Verilog files."""
         return {file.path: file.data for file in self.files if FRONTS[file.kind] == VERILOG}
 
-    def declared(self, top: str) -> str:
+    def declared(self, top: str) -> Statement:
         """Begins to read the design as far as a top module has it, and gives that in yosys's own
         language, in which each name is declared."""
         try:
@@ -158,9 +165,10 @@ class ReadDesign:
             texts = [Text(text) for text in expanded(reading.data())]
             binds = any(BIND.search(text.words) for text in texts)
             if not WARNED.search(reading.said()) and not binds:
-                whole = self.yosys.text("below.il")
-                rtlil.check_names(self.check_texts(texts, whole))
-                is_joined = "\n  attribute \\hierconn " in whole
+                whole = self.yosys.design("below.il")
+                modules.check_names(self.check_texts(texts, whole))
+                is_joined = any(JOINED in wire.attributes
+                                for module in whole.of("module") for wire in module.of("wire"))
                 self.flat = scripts.FLAT_FIRST if is_joined else scripts.FLAT
                 return whole
             reading.printed()
@@ -169,15 +177,15 @@ class ReadDesign:
                 raise
         return self.looked_up(top)
 
-    def check_texts(self, texts: Iterable[Text], whole: str) -> dict[str, str]:
+    def check_texts(self, texts: Iterable[Text], whole: Statement) -> dict[str, Statement]:
         """Refuses what yosys reads otherwise in these texts of a whole design, and gives its
-        modules in yosys's own language."""
-        modules = modules_of(whole)
+        modules."""
+        found = modules_of(whole)
         for text in texts:
-            text.check(set(map(source_of, modules)))
-        return modules
+            text.check(set(map(source_of, found)))
+        return found
 
-    def looked_up(self, top: str) -> str:
+    def looked_up(self, top: str) -> Statement:
         """Returns the same, where names are looked up first, and what is bound to modules is put
         into them."""
         # What looks names up takes long to be compiled.
@@ -186,7 +194,7 @@ class ReadDesign:
         reading = self.begin(top, LOOKING, self.given())
         said, before = reading.printed(), self.yosys.descriptors
         texts = dict(zip(self.given(), expanded(reading.data())))
-        self.check_texts(map(Text, texts.values()), self.yosys.text("below.il"))
+        self.check_texts(map(Text, texts.values()), self.yosys.design("below.il"))
         if any(BIND.search(Text(text).words) for text in texts.values()):
             texts = bound(texts)
             said = self.begin(top, AGAIN, texts, before).printed()
@@ -196,34 +204,33 @@ class ReadDesign:
         except Fault as why:
             raise names.unknown(str(why)) or why from None
         self.flat = scripts.FLAT_FIRST
-        return names.checked(self.yosys.text("below.il"), reading.said())
+        return names.checked(self.yosys.design("below.il"), reading.said())
 
     def parameters(self) -> str:
         """Returns the words that set parameters of the top module, which has to have them: yosys
         passes over others."""
-        known = PARAMETER.findall(modules_of(self.yosys.text("all.il")).get(f"\\{self.top}", ""))
+        module = modules_of(self.every()).get(f"\\{self.top}")
+        known = [it.name[1:] for it in module.of("parameter")] if module else []
         for name, _ in self.options.parameter:
             if name not in known:
                 raise Fault(f"{self.top} has no parameter {name}"
                             + (f", but {', '.join(known)}" if known else ""))
         return "".join(f" -chparam {name} {value}" for name, value in self.options.parameter)
 
-    def freed_boxes(self, text: str, modules: Mapping[str, str]) -> str:
-        """Returns the design with modules in the place of black boxes whose outputs are to be free;
-        others that it has are refused."""
-        boxes = {name: own for name, own in modules.items() if BOX in own}
-        known = set(map(base_of, modules))
+    def free_boxes(self, found: Mapping[str, Statement], types: Container[str]) -> None:
+        """Makes modules of black boxes whose outputs are to be free; others that the design has are
+        refused."""
+        known = set(map(base_of, found))
         for name in self.options.black_box:
             if name not in known:
                 raise Fault(f"{name} is no module of the design")
-        for name, own in boxes.items():
-            if base_of(name) in self.options.black_box:
-                text = text.replace(own, own.replace(BOX, "\n"))
-            elif f"\n  cell {name} " in text:
+        for name, own in found.items():
+            if BOX in own.attributes and base_of(name) in self.options.black_box:
+                del own.attributes[BOX]
+            elif BOX in own.attributes and name in types:
                 why = f"{base_of(name)} is a black box: " \
                     "give its file too, or let its outputs have any values"
                 raise Fault(f"{why} (--black-box {base_of(name)})")
-        return text
 
     def passed_over(self, cell: Cell, is_below: bool) -> Iterator[tuple[str, str]]:
         """Yields a line of an assertion, or another such cell, that no bad state or constraint

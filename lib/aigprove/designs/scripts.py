@@ -1,8 +1,6 @@
 """The scripts of yosys by which a design becomes a file in AIGER form, and what they use.
 
 Those of several lines are files of the folder `templates`, which `str.format` fills."""
-import re
-
 from aigprove.data import text
 from aigprove.designs.front_ends import ASSERT, COVER, LIVE
 
@@ -26,9 +24,9 @@ FLAT_FIRST = "flatten\nselect -assert-none a:hierconn\nproc -noopt -norom"
 # Cells whose value is x for some operands, as a bit by an index past all bits, which may be a sum
 # of constants; and the lines that make them total, and those for memories. If there are none the
 # map isn't read.
-PARTIAL = re.compile(r"\n  cell \$(?:shiftx|div|mod|divfloor|modfloor|eqx|nex) ")
+PARTIAL = {f"${name}" for name in "shiftx div mod divfloor modfloor eqx nex".split()}
 TOTAL = text(f"{TEMPLATES}/total.ys")
-MEMORY = re.compile(r"\n  (?:memory |cell \$mem)")
+MEMORY = "$mem"
 MEMORIES = text(f"{TEMPLATES}/memories.ys")
 MAPS = ["free", "gates"]
 # By what is asked about: how the rest is left out. Covers become assertions that fail. Beside

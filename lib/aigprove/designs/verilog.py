@@ -12,12 +12,13 @@ from typing import NamedTuple
 
 from aigprove.circuits.aiger import Fault
 from aigprove.circuits.witness import Witness
-from aigprove.designs import netlist, rtlil, scripts
-from aigprove.designs.front_ends import ASSERT, COVER, LIVE, File
+from aigprove.designs import netlist, scripts
+from aigprove.designs.front_ends import ASSERT, COVER, LIVE, File, TranslationTimeout
+from aigprove.designs.modules import paths_of
 from aigprove.designs.netlist import Json
 from aigprove.designs.reading import KINDS, WORD, ReadDesign
 from aigprove.designs.replay import Module
-from aigprove.designs.yosys import TranslationTimeout
+from aigprove.designs.rtlil import Statement, write
 from aigprove.options.options import DesignOptions
 from aigprove.output.messages import escaped, plain
 from aigprove.processes.scheduler import Task
@@ -27,8 +28,8 @@ SMALL = 1 << 17
 # What finds fewer gates, and how long the text of a design is that is compared in less time without
 # that.
 FEWER, BRIEF = "abc -g AND\nopt_clean", 1 << 20
-WIRE = re.compile(r"^  wire .*\\(\S+)$", re.MULTILINE)
-FF = re.compile(r"^  cell \$ff (\S+)\n", re.MULTILINE)
+# The attribute of a net with its path, and the clock of a design that has none.
+HDLNAME, CLOCKED = "\\hdlname", (scripts.SPARE, True)
 # How many signs of an assertion's text are printed.
 SPELLED = 200
 # The files of our own that cells are made by: an included file has no such name.
@@ -174,7 +175,7 @@ class Design(ReadDesign):
         lines = [line.replace("x", "0") + "0" for line in [trace.start, *trace.steps]]
         # Yosys passes over an empty line, and wants a clock.
         self.yosys.put("witness.aiw", "\n".join(["1", f"b{trace.bad}", *lines, ".", ""]))
-        clock, rising = self.clock or (scripts.SPARE, True)
+        clock, rising = self.clock or CLOCKED
         printed = self.yosys.run(scripts.SIMULATE,
                                  clock=f"-clock{'' if rising else 'n'} \\{clock}", top=self.top)
         failed = FAILED.findall(printed.rpartition("Simulating cycle ")[2])
@@ -198,18 +199,18 @@ class Design(ReadDesign):
         """Has yosys make the module that it simulates, in which all signals of the design are."""
         if not self.is_replayed:
             self.yosys.run(scripts.REPLAY, top=self.top, renames=self.renames, spare=self.spare())
-        paths = rtlil.paths_of(self.top_of("drawn.json")[1]["netnames"])
-
-        def placed(line: re.Match[str]) -> str:
-            path = paths.get(line[1])
-            return f'  attribute \\hdlname "{path}"\n{line[0]}' if path else line[0]
-
-        # Yosys has no first value for a register of all steps, but for one of a clock.
-        clock, rising = self.clock or (scripts.SPARE, True)
-        clocked = rf"  cell $dff \1\n    parameter \\CLK_POLARITY 1'{rising:d}\n" \
-            rf"    connect \\CLK \\{clock}\n"
-        self.yosys.put("replayed.il",
-                       FF.sub(clocked, WIRE.sub(placed, self.yosys.text("replayed.il"))))
+        paths = paths_of(self.top_of("drawn.json")[1]["netnames"])
+        design, (clock, rising) = self.yosys.design("replayed.il"), self.clock or CLOCKED
+        for it in (it for module in design.of("module") for it in module.body):
+            path = paths.get(it.name[1:]) if it.name.startswith("\\") else None
+            if it.kind == "wire" and path:
+                it.attributes[HDLNAME] = f'"{path}"'
+            elif it.kind == "cell" and it.type == "$ff":
+                # Yosys has no first value for a register of all steps, but for one of a clock.
+                it.text = f"$dff {it.name}"
+                it.body[:0] = [Statement("parameter", f"\\CLK_POLARITY 1'{rising:d}"),
+                               Statement("connect", f"\\CLK \\{clock}")]
+        self.yosys.put("replayed.il", write(design))
 
     @functools.cached_property
     def module(self) -> Module:

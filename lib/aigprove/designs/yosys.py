@@ -18,8 +18,9 @@ from collections.abc import Callable, Iterator, Mapping, Sequence
 from typing import Any
 
 from aigprove.circuits.aiger import Fault
-from aigprove.designs.front_ends import File
+from aigprove.designs.front_ends import File, TranslationTimeout
 from aigprove.designs.netlist import Json
+from aigprove.designs.rtlil import Statement, parse
 from aigprove.designs.texts import EXPANDED
 from aigprove.output.messages import ending, plain
 from aigprove.processes.groups import Words
@@ -31,6 +32,10 @@ Script = Callable[[str, str, Mapping[str, str], Sequence[str]], str]
 Texts = Callable[[Sequence[int]], Mapping[str, bytes]]
 # A warning, which may go on in further lines, and the place before it.
 WARNING = re.compile(r"^(?:(.*): )?Warning: (.*(?:\n {4}.*)*)$", re.MULTILINE)
+# What it says of a name without a declaration where that is refused, and where it isn't.
+REFUSED = re.compile(r"^(.*): ERROR: Identifier `(\S+)' is implicitly declared and "
+                     r"`default_nettype is set to none\.", re.MULTILINE)
+WARNED = re.compile(r"^(.*): Warning: Identifier `(\S+)' is implicitly declared\.$", re.MULTILINE)
 # Warnings that aren't told, and why.
 HUSHED = {
     "The network is combinational":
@@ -41,10 +46,6 @@ HUSHED = {
 # How many commands a line of a script has at most: yosys copies the rest of a line behind each
 # word.
 LONGEST = 1000
-
-
-class TranslationTimeout(Fault):
-    """The time was over before there was a file to ask about."""
 
 
 class Yosys:
@@ -106,6 +107,10 @@ class Yosys:
         """Returns the text of a file in the folder."""
         with open(self.place(name), encoding="utf-8", errors="surrogateescape") as file:
             return file.read()
+
+    def design(self, name: str) -> Statement:
+        """Returns what a file in the folder says in yosys's own language."""
+        return parse(self.text(name))
 
     def modules(self, name: str) -> dict[str, Json]:
         """Returns what each module has, in a file in JSON that yosys wrote."""

@@ -1,21 +1,32 @@
-"""ABC, whose counterexamples become witnesses and whose invariants become certificates."""
+"""ABC, whose counterexamples become witnesses and whose invariants become certificates: on a file,
+on several of its properties at once, and on files that count rounds of a justice property."""
+import functools
 import shutil
-from collections.abc import Iterable
+from collections.abc import Iterable, Mapping, Sequence
 
-from aigprove.circuits.aiger import Fault
-from aigprove.circuits.normalised import NormalisedModel
+from aigprove.circuits.aiger import Circuit, Fault
+from aigprove.circuits.normalised import NormalisedModel, parted
+from aigprove.circuits.simulation import reached
+from aigprove.circuits.witness import Witness
 from aigprove.engines.certificate import Certificate
-from aigprove.engines.job import Job, Missing
+from aigprove.engines.job import CountedRounds, Job, Missing, Problem
+from aigprove.options.options import Options
 from aigprove.output.messages import ending
-from aigprove.processes.folder import Folder
+from aigprove.processes.files import Folder, Sealed
 from aigprove.processes.groups import Words
 from aigprove.processes.scheduler import Task
-from aigprove.processes.sealed import Sealed
+from aigprove.questions.checker import Checker, Claim
+from aigprove.questions.target import Target
 
 ABCS = ["berkeley-abc", "yosys-abc", "abc"]
-# Bounded model checking, where 0 is no bound; and property directed reachability, whose invariant
-# becomes a certificate.
-COMMANDS = {"bmc3": "bmc3 -F {steps}", "pdr": "pdr -d -I inv.pla"}
+# All properties, each for so many thousandths of a second at most; and the first runs to
+# properties, up to so many steps.
+PDR = "pdr -a -x -d -I inv.pla -H {each}"
+BMC = "bmc3 -a -x -F {steps} -T {seconds}"
+# The initial state and the inputs of each step, by the places of properties.
+Runs = dict[int, tuple[str, list[str]]]
+# How many rounds are counted, one after the other.
+COUNTS = [1, 2, 4, 8, 16]
 
 
 def path_of_abc(given: str | None) -> str:
@@ -44,17 +55,19 @@ def ask_abc(program: str, task: Task, above: str, model: NormalisedModel,
 
 
 class Abc:
-    """A command of ABC on the normalised model of the file."""
+    """A command of ABC on the normalised model of the file, which begins with its name."""
 
-    def __init__(self, name: str, job: Job) -> None:
-        self.name, self.job, self.program = name, job, path_of_abc(job.options.abc)
+    command: str
+
+    def __init__(self, job: Job) -> None:
+        self.job, self.program = job, path_of_abc(job.options.abc)
 
     def run(self) -> None:
         """Runs the command, and hands in what it finds."""
         job = self.job
-        job.progress(self.name)
+        job.progress(self.command.partition(" ")[0])
         model, bound = job.problem.normalised, job.bound
-        command = COMMANDS[self.name].format(steps=0 if bound is None else bound + 1)
+        command = self.command.format(steps=0 if bound is None else bound + 1)
         found, invariant = ask_abc(self.program, job.task, job.above, model, command)
         if found:
             trace = job.reached(*model.run(found))
@@ -66,3 +79,129 @@ class Abc:
             if made is None:
                 raise Fault("its invariant isn't one of the machine")
             Certificate(job, job.solver(), Sealed(made)).run()
+
+
+class Bmc3(Abc):
+    """Bounded model checking, where 0 is no bound."""
+
+    command = "bmc3 -F {steps}"
+
+
+class Pdr(Abc):
+    """Property directed reachability, whose invariant becomes a certificate."""
+
+    command = "pdr -d -I inv.pla"
+
+
+class MultiProperty:
+    """ABC, which is asked about several properties of a circuit."""
+
+    def __init__(self, options: Options, task: Task, above: str) -> None:
+        self.program, self.task, self.above = path_of_abc(options.abc), task, above
+
+    def ask(self, circuit: Circuit, command: str) -> tuple[Runs, Sealed | None]:
+        """Returns what a command finds.
+
+        That is runs to properties that are reached, by their places, and the certificate for the
+        others, if there is one."""
+        model = NormalisedModel(circuit, is_apart=True)
+        found, invariant = ask_abc(self.program, self.task, self.above, model, command)
+        made = model.certificate(invariant) if invariant else None
+        runs = {place: model.run(text) for place, text in parted(found)}
+        return runs, Sealed(made) if made else None
+
+
+class Cones:
+    """Circuits with some of a circuit's bad state properties alone.
+
+    Gates and next states that these don't read are left out."""
+
+    def __init__(self, circuit: Circuit) -> None:
+        self.circuit = circuit
+        self.below = {gate: operands for gate, *operands in circuit.gates}
+        self.below.update((latch, [next]) for latch, next in zip(circuit.latches, circuit.nexts))
+
+    def of(self, numbers: Iterable[int]) -> Circuit:
+        """Returns the circuit with the properties of these numbers."""
+        circuit = self.circuit
+        bads = [circuit.bads[number] for number in numbers]
+        left, seen = [literal & ~1 for literal in [*bads, *circuit.constraints]], set()
+        while left:
+            if (it := left.pop()) not in seen:
+                seen.add(it)
+                left += [literal & ~1 for literal in self.below.get(it, [])]
+        nexts = [next if latch in seen else 0
+                 for latch, next in zip(circuit.latches, circuit.nexts)]
+        gates = [gate for gate in circuit.gates if gate[0] in seen]
+        return circuit.with_lists(bads=bads, nexts=nexts, gates=gates)
+
+
+class CountedFile(Target):
+    """The file in which so many rounds end, and what aigcheck shows by it of the given file."""
+
+    can_be_simulated = False
+
+    def __init__(self, justice: Target, checker: Checker, count: int) -> None:
+        self.justice, self.checker, self.count = justice, checker, count
+        self.path, self.name = justice.path, f"rounds-{count}.aag"
+
+    def make(self) -> Sealed:
+        return self.justice.rounds(self.checker, self.count)
+
+    def circuit(self) -> Circuit:
+        return self.checker.circuit(self.asked, "FILE")
+
+    def certified(self, certificate: Sealed, proofs: Mapping[str, Sealed], *form: str) -> Claim:
+        """Returns that no run shows the property, by a certificate and proofs about both."""
+        return self.justice.certified(certificate, proofs, "--rounds", str(self.count))
+
+
+class CountingProblem(Problem):
+    """The circuit of such a file, which is simulated alone."""
+
+    @functools.cached_property
+    def circuit(self) -> Circuit:
+        return self.source.circuit()
+
+    def reached(self, checker: Checker, start: str, steps: Sequence[str]) -> Witness | None:
+        return reached(self.circuit, start, steps)
+
+
+class Counting(Job):
+    """A job of pdr's about such a file.
+
+    A run says that so many rounds can end, and nothing of the property."""
+
+    def __init__(self, job: Job, count: int) -> None:
+        source = CountedFile(job.problem.source, job.checker, count)
+        problem = CountingProblem(job.options, source, job.checker, job.above)
+        super().__init__(problem, job.task, job.board)
+        self.count, self.is_reached, self.bound = count, False, None
+
+    def progress(self, what: str, count: int | None = None) -> None:
+        super().progress("rounds", self.count)
+
+    def hand_in_run(self, data: bytes) -> None:
+        self.is_reached = True
+
+    def certificate(self, claim: Claim, machine: Sealed) -> None:
+        self.board.hand_in(self.task, CountedRounds(claim))
+
+
+class Rounds:
+    """Asks pdr of ABC whether 1, 2, 4 and so on rounds can end, up to the first that can't."""
+
+    def __init__(self, job: Job) -> None:
+        if not job.source.counts:
+            raise Missing("it is for justice properties")
+        job.solver()
+        Pdr(job)
+        self.job = job
+
+    def run(self) -> None:
+        """Asks about one number of rounds after the other."""
+        for count in COUNTS:
+            counting = Counting(self.job, count)
+            Pdr(counting).run()
+            if not counting.is_reached:
+                return

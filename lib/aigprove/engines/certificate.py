@@ -2,12 +2,12 @@
 from collections.abc import Callable, Iterator, Mapping
 
 from aigprove.circuits import simulation
-from aigprove.circuits.abc_output import PLA
 from aigprove.circuits.aiger import Circuit, Fault
+from aigprove.circuits.normalised import PLA
 from aigprove.engines.job import Job
 from aigprove.output.signals import Signals
-from aigprove.processes.background import BackgroundCall
-from aigprove.processes.sealed import Sealed
+from aigprove.processes.files import Sealed
+from aigprove.processes.groups import BackgroundCall
 from aigprove.questions import conditions
 from aigprove.questions.checker import Query
 from aigprove.questions.solver import Solver, true_of

@@ -1,19 +1,28 @@
 """What somebody else found, and the command line gives: a run, or a certificate."""
-from aigprove.circuits.abc_output import of_abc
 from aigprove.circuits.aiger import Fault
+from aigprove.circuits.normalised import of_abc
+from aigprove.engines.certificate import Certificate
 from aigprove.engines.job import Job
-from aigprove.processes.sealed import Sealed
+
+
+class GivenCertificate(Certificate):
+    """A certificate, sealed."""
+
+    def __init__(self, job: Job) -> None:
+        assert job.options.certificate
+        super().__init__(job, job.solver(), job.options.certificate)
 
 
 class GivenRun:
     """A run to a bad state, sealed: a witness, or a counterexample of ABC's."""
 
-    def __init__(self, given: Sealed, job: Job) -> None:
-        self.job, self.given = job, given
+    def __init__(self, job: Job) -> None:
+        self.job = job
 
     def run(self) -> None:
         """Has it checked, and hands it in."""
-        data = self.given.data()
+        assert self.job.options.run
+        data = self.job.options.run.data()
         if data.startswith((b"1\nb", b"c")):
             self.job.hand_in_run(data)
             return

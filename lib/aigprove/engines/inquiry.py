@@ -1,20 +1,21 @@
 """One question of a command line, whose answer is printed."""
+from __future__ import annotations
+
+from typing import TYPE_CHECKING
+
 from aigprove.circuits.aiger import Fault
-from aigprove.engines.answers import FAILED, OPEN, SAFE, UNSAFE
-from aigprove.engines.board import Board, Clock
-from aigprove.engines.job import Job
+from aigprove.engines.job import FAILED, OPEN, SAFE, UNSAFE, Board, Clock, Job, Problem
 from aigprove.engines.portfolio import Portfolio, engines_of
-from aigprove.engines.problem import Problem
 from aigprove.options.options import Options
-from aigprove.output.evidence import Evidence
 from aigprove.output.messages import say, show_progress
 from aigprove.output.printer import Printer
 from aigprove.processes.scheduler import Scope
-from aigprove.questions.assumptions import Assumptions
 from aigprove.questions.checker import Checker, header_of
-from aigprove.questions.endless import Endless
-from aigprove.questions.justice import Justice
 from aigprove.questions.target import Target
+
+if TYPE_CHECKING:
+    from aigprove.output.evidence import Evidence
+    from aigprove.questions.assumptions import Assumptions, Endless
 
 
 class Inquiry:
@@ -29,10 +30,16 @@ class Inquiry:
         self.header = header_of(self.problem.text)
         self.board = Board(Clock(options.deadline))
         self.job = Job(self.problem, task, self.board)
-        self.evidence = Evidence(options.keep, options.limit) if options.keep else None
-        if self.evidence:
-            source.keep(self.evidence)
+        self.evidence = self.kept() if options.keep else None
         self.printer = Printer(self.job, self.evidence)
+
+    def kept(self) -> Evidence:
+        """Returns what is kept, which begins with the file."""
+        from aigprove.output import evidence
+
+        made = evidence.Evidence(self.options.keep or "", self.checker, self.options.limit)
+        self.source.keep(made)
+        return made
 
     def run(self) -> int:
         """Asks the engines, prints the answer, and returns the exit status."""
@@ -41,15 +48,17 @@ class Inquiry:
         for line in self.source.about():
             self.printer.print_line(line)
         status = self.answer()
-        if status == SAFE:
-            self.scope.end_others(self.job.task)
-        else:
+        if status != SAFE:
             self.printer.tell_no_certificate(
                 "the answer is a run" if status == UNSAFE else "there is no answer")
         if status == SAFE and self.source.assumed(self.header):
+            from aigprove.questions.assumptions import Assumptions
+
             status = self.status_of(Assumptions(self.source, self.checker))
-        if status == SAFE and isinstance(self.source, Justice) and self.source.is_fair():
-            status = self.status_of(Endless(self.source, self.checker))
+        if status == SAFE and self.source.is_fair():
+            from aigprove.questions.assumptions import endless_of
+
+            status = self.status_of(endless_of(self.source, self.checker))
         if not self.options.aiger or status == FAILED:
             return status
         self.printer.print_report(status)
@@ -64,6 +73,7 @@ class Inquiry:
         if status is None and len(portfolio.failed) == len(engines):
             return FAILED
         if status is None:
+            self.scope.end_others(self.job.task)
             self.printer.print_open()
             return OPEN
         return status
@@ -71,11 +81,8 @@ class Inquiry:
     def status_of(self, found: Assumptions | Endless) -> int:
         """Prints whether some run meets what is assumed, by which the answer isn't empty."""
         try:
-            if isinstance(found, Endless):
-                found.look(self.job.solver(), self.options.deadline)
-            else:
-                least = max(self.board.steps - 1, self.board.windowed)
-                found.look(self.job.solver(), least, self.options.deadline)
+            least = max(self.board.steps - 1, self.board.windowed)
+            found.look(self.job.solver(), least, self.options.deadline)
         except Fault as why:
             say(f"assumptions: {why}")
         if self.evidence:

@@ -1,17 +1,233 @@
-"""What an engine is given: a problem, a task for its programs, and a board for its answers."""
-import contextlib
-from collections.abc import Sequence
+"""What an engine is given, and what it hands in.
 
-from aigprove.circuits.aiger import Fault
+It is a job on a problem, with a task for its programs and a board for its answers. Protocols say
+what a portfolio expects of engines, of what is asked about, and of what hears answers."""
+from __future__ import annotations
+
+import contextlib
+import functools
+import queue
+import re
+import threading
+import time
+from collections.abc import Mapping, Sequence
+from typing import NamedTuple, Protocol
+
+from aigprove.circuits.aiger import Circuit, Fault
+from aigprove.circuits.normalised import NormalisedModel
+from aigprove.circuits.simulation import SIMULATED, reached
 from aigprove.circuits.witness import Witness, read_for
-from aigprove.engines.answers import Certified, Induction, RunFound, StepShown
-from aigprove.engines.board import Board
-from aigprove.engines.problem import Problem
-from aigprove.engines.protocols import Source
+from aigprove.engines.rows import ROWS
+from aigprove.options.options import Options
+from aigprove.processes.files import Sealed
 from aigprove.processes.scheduler import Task
-from aigprove.processes.sealed import Sealed
-from aigprove.questions.checker import Claim, Question
+from aigprove.questions.checker import Checker, Claim, Question, header_of
 from aigprove.questions.solver import Solver
+from aigprove.questions.target import Target
+
+# What an answer comes to, which is the exit status.
+SAFE, UNSAFE, OPEN, FAILED = 20, 10, 0, 1
+
+
+class Source(Protocol):
+    """What engines ask about: a file, and what aigcheck says of it once they have evidence."""
+
+    # What stands before lines about the file, and about one step of it.
+    prefix: str
+    of_step: str
+    # Whether there are files that count its rounds, and whether a certificate may be a witness
+    # circuit that simulates it.
+    counts: bool
+    can_be_simulated: bool
+
+    @property
+    def asked(self) -> Sealed:
+        """The file."""
+
+    def circuit(self) -> Circuit:
+        """Returns the circuit in which a run is printed."""
+
+    def others(self, circuit: Circuit, trace: Witness) -> list[Witness]:
+        """Returns further witnesses of what a run shows."""
+
+    def mattering(self, traces: Sequence[Witness]) -> Sequence[Witness]:
+        """Returns those of some witnesses of one run that are printed."""
+
+    def unsolvable(self, question: Question, proof: Sealed) -> Claim:
+        """Returns that a question has no solution, by a proof."""
+
+    def proved(self, question: Question, base: Sealed, window: Question, step: Sealed) -> Claim:
+        """Returns that no step is bad, by proofs of the steps up to K and of a window."""
+
+    def certified(self, certificate: Sealed, proofs: Mapping[str, Sealed], *form: str) -> Claim:
+        """Returns that no step is bad, by a certificate and proofs about both."""
+
+
+class Engine(Protocol):
+    """What looks for an answer, in a thread of its own."""
+
+    def run(self) -> None:
+        """Looks for an answer, and hands it in once it is checked."""
+
+
+class Sink(Protocol):
+    """What hears of answers."""
+
+    def take(self, engine: str, answer: Answer) -> int | None:
+        """Takes an answer of an engine, and returns the exit status if it decides the question."""
+
+    def fail(self, engine: str, error: Exception | str) -> None:
+        """Reports why an engine gives no answer."""
+
+    def show_progress(self) -> None:
+        """Shows what is being done."""
+
+
+class Make(Protocol):
+    """What makes an engine of a job."""
+
+    def __call__(self, job: Job) -> Engine:
+        """Returns the engine."""
+
+
+class StepShown(NamedTuple):
+    """Step k is shown, and with it all before; the prefix stands before the line of the claim."""
+
+    k: int
+    claim: Claim
+    prefix: str
+
+
+class Induction(NamedTuple):
+    """A question of a window has no solution, and with the steps before it no step is bad."""
+
+    question: Question
+    window: Claim
+    claim: Claim
+
+
+class Certified(NamedTuple):
+    """An inductive machine shows that no step is bad."""
+
+    claim: Claim
+    machine: Sealed
+
+
+class CountedRounds(NamedTuple):
+    """A file that counts rounds shows that no run is fair."""
+
+    claim: Claim
+
+
+class RunFound(NamedTuple):
+    """Witnesses of a run to bad states."""
+
+    traces: Sequence[Witness]
+
+
+class Ended(NamedTuple):
+    """An engine ended without an answer, perhaps because of an error."""
+
+    error: Exception | None
+
+
+Answer = StepShown | Induction | Certified | CountedRounds | RunFound
+
+
+class Clock:
+    """When a question was begun, and when it is given up."""
+
+    def __init__(self, deadline: float) -> None:
+        self.begun, self.deadline = time.monotonic(), deadline
+
+    def seconds(self) -> float:
+        """Returns for how long it was asked."""
+        return time.monotonic() - self.begun
+
+    def left(self) -> float:
+        """Returns how many seconds there are until it is given up."""
+        return self.deadline - time.monotonic()
+
+    def end_soon(self) -> None:
+        """Notes that all steps up to the bound are shown.
+
+        The other engines then get as much time as has passed, plus one second."""
+        self.deadline = min(self.deadline, time.monotonic() + self.seconds() + 1)
+
+
+class Board:
+    """The answers that were handed in, and what is known so far."""
+
+    def __init__(self, clock: Clock, steps: int = 0) -> None:
+        self.clock = clock
+        # Steps that were shown, from 0 on, those before a window that was, and proofs of questions
+        # about the steps up to K, by K.
+        self.steps, self.windowed = steps, 0
+        self.bounded: dict[int, Sealed] = {}
+        # The tasks of the engines that were started, and what they do.
+        self.tasks: list[Task] = []
+        self.doing: dict[str, str] = {}
+        # Whether the program of an engine for pairs runs.
+        self.has_begun = threading.Event()
+        self.events: queue.Queue[tuple[Task, Answer | Ended] | None] = queue.Queue()
+
+    def hand_in(self, task: Task, event: Answer | Ended) -> None:
+        """Takes an answer of a task, or that it ended."""
+        self.events.put((task, event))
+
+    def wake(self) -> None:
+        """Ends a wait for answers."""
+        self.events.put(None)
+
+    def ended(self, engine: str) -> None:
+        """Forgets what an engine does."""
+        row = ROWS.get(engine)
+        self.doing.pop(row and row.doing or engine, None)
+
+
+class Problem:
+    """A file about which engines are asked, with its circuit, and how that is asked."""
+
+    def __init__(self, options: Options, source: Target, checker: Checker, above: str) -> None:
+        self.options, self.source, self.checker, self.above = options, source, checker, above
+
+    @functools.cached_property
+    def text(self) -> Sealed:
+        """The text form of the file, which has to have a bad state property."""
+        try:
+            text = self.checker.text(self.source.asked)
+        except Fault as why:
+            said = re.sub("^aig(tool|edit): ", "", str(why))
+            raise Fault(f"{self.source.path}: {said}") from None
+        if header_of(text).bads == 0:
+            raise Fault(f"{self.source.path}: {self.source.empty}")
+        return text
+
+    @functools.cached_property
+    def circuit(self) -> Circuit:
+        """The circuit of the file."""
+        return self.checker.circuit(self.text, "FILE")
+
+    @functools.cached_property
+    def normalised(self) -> NormalisedModel:
+        """The circuit as model checkers read it."""
+        return NormalisedModel(self.circuit)
+
+    def claimed(self, trace: Witness) -> Claim:
+        """Returns what aigcheck says of a run."""
+        return self.source.run(trace, Sealed(trace.text().encode()))
+
+    def reached(self, checker: Checker, start: str, steps: Sequence[str]) -> Witness | None:
+        """Returns the witness of a run whose last step is bad, as aigcheck finds.
+
+        If a short run isn't one, the first bad step counts, which nobody has checked. The result is
+        None if there is none."""
+        for bad in range(len(self.circuit.bads) if steps else 0):
+            trace = Witness(bad, start, steps)
+            if checker.holds(self.claimed(trace)):
+                return trace
+        is_short = len(steps) * len(self.circuit.gates) < SIMULATED
+        return reached(self.circuit, start, steps) if is_short else None
 
 
 class Missing(Fault):

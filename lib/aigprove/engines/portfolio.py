@@ -1,55 +1,30 @@
 """Engines side by side: the first checked answer wins."""
-import functools
 import queue
 import threading
-from collections.abc import Callable, Mapping
+from collections.abc import Mapping
 
-from aigprove.engines.abc import COMMANDS, Abc
-from aigprove.engines.answers import Ended
-from aigprove.engines.board import Board
-from aigprove.engines.certificate import Certificate
-from aigprove.engines.given import GivenRun
-from aigprove.engines.job import Job, Missing
-from aigprove.engines.problem import Problem
-from aigprove.engines.protocols import Engine, Sink
-from aigprove.engines.rounds import Rounds
-from aigprove.engines.solving import Bounded, Steps, Windows
-from aigprove.equality.engines import CorrespondingRegisters, CorrespondingSignals
+from aigprove.engines.job import Board, Ended, Engine, Job, Make, Missing, Problem, Sink
+from aigprove.engines.rows import JUSTICE, PAIRS, ROWS, make_of, names_of
 from aigprove.processes.scheduler import Scope, Stopped, Task
-from aigprove.processes.sealed import Sealed
 
 # Seconds between two looks at turns, limits and the clock.
 TICK = 0.1
-# Engines that have their program run before others compute something here; those that begin once
-# one of two has ended, as each program is slower with more beside it; and after how many seconds
-# at the latest.
-FIRST, LATER = {"scorr", "registers"}, {"pdr", "bounded", "steps", "windows"}
+# Later engines begin once one of these has ended, as each program is slower with more beside it, or
+# after so many seconds.
 BEFORE, HEAD_START = {"registers", "bmc3"}, 0.75
-
-Make = Callable[[Job], Engine]
-ENGINES: dict[str, Make] = {
-    "steps": Steps, "bounded": Bounded, "windows": Windows, "rounds": Rounds,
-    "registers": CorrespondingRegisters, "scorr": CorrespondingSignals,
-    **{name: functools.partial(Abc, name) for name in COMMANDS},
-}
-
-
-def certificate_of(certificate: Sealed, job: Job) -> Engine:
-    """Returns what checks a certificate that was given."""
-    return Certificate(job, job.solver(), certificate)
 
 
 def engines_of(problem: Problem) -> dict[str, Make]:
     """Returns the engines that are asked for, by their names."""
-    options, given = problem.options, dict[str, Make]()
-    if options.certificate:
-        given["certificate"] = functools.partial(certificate_of, options.certificate)
-    if options.run:
-        given["run"] = functools.partial(GivenRun, options.run)
-    names = [*options.engines]
-    if problem.source.counts and not options.are_engines_named:
-        names.append("rounds")
-    return {**given, **{name: ENGINES[name] for name in names}}
+    options, engines = problem.options, dict[str, Make]()
+    if options.certificate or options.run:
+        from aigprove.engines.given import GivenCertificate, GivenRun
+
+        engines |= {"certificate": GivenCertificate} if options.certificate else {}
+        engines |= {"run": GivenRun} if options.run else {}
+    is_counted = problem.source.counts and not options.are_engines_named
+    names = [*options.engines, *names_of(JUSTICE) * is_counted]
+    return {**engines, **{name: make_of(name) for name in names}}
 
 
 class Portfolio:
@@ -65,7 +40,7 @@ class Portfolio:
 
     def start(self, name: str, make: Make) -> bool:
         """Starts an engine, and returns whether it was."""
-        task = self.scope.task(name)
+        task = self.scope.task(name, ROWS[name].share if name in ROWS else 1)
         try:
             engine = make(Job(self.problem, task, self.board))
         except Missing as why:
@@ -75,13 +50,14 @@ class Portfolio:
         self.board.tasks.append(task)
         work = threading.Thread(target=self.work, args=[task, engine], name=name, daemon=True)
         work.start()
-        if name in FIRST and isinstance(engine, CorrespondingRegisters):
-            engine.has_begun.wait(HEAD_START)
+        if name in names_of(PAIRS):
+            # Its program runs before others compute something here.
+            self.board.has_begun.wait(HEAD_START)
         return True
 
     def work(self, task: Task, engine: Engine) -> None:
         """Runs an engine in its thread. Whatever its program leaves, the other engines go on."""
-        if task.engine in LATER:
+        if task.engine in ROWS and ROWS[task.engine].is_later:
             self.is_free.wait(HEAD_START)
         try:
             engine.run()

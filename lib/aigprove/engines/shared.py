@@ -12,27 +12,22 @@ from typing import TypeVar
 
 from aigprove.circuits.aiger import Circuit, Fault
 from aigprove.circuits.witness import Witness
-from aigprove.engines.answers import RunFound
+from aigprove.engines.abc import BMC, PDR, Cones, MultiProperty
 from aigprove.engines.certificate import Certificate
-from aigprove.engines.job import Job, Missing
-from aigprove.engines.multi_property import BMC, PDR, Cones, MultiProperty
+from aigprove.engines.job import Job, Missing, RunFound
 from aigprove.engines.portfolio import TICK
-from aigprove.engines.property_portfolio import PropertyPortfolio
-from aigprove.engines.separate import MORE, SeparateProperties
+from aigprove.engines.rows import ROWS
+from aigprove.engines.separate import MORE, PropertyPortfolio, SeparateProperties
 from aigprove.options.options import Options
-from aigprove.output.evidence import ABOVE
-from aigprove.output.folders import EvidenceFolder
+from aigprove.output.evidence import ABOVE, EvidenceFolder
+from aigprove.processes.files import Sealed
 from aigprove.processes.scheduler import Scope, Stopped
-from aigprove.processes.sealed import Sealed
-from aigprove.questions.bad_states import BadStates
+from aigprove.questions.bad_states import BadStates, FileAbove
 from aigprove.questions.checker import Checker
-from aigprove.questions.properties import FileAbove
 
 # Seconds of the first run of pdr for each property, of the time that all are asked about at once,
 # and of the search for shorter runs.
 PASS, WHOLE, SHORTER = 1, 2, 2
-# Engines whose runs are the shortest.
-SHORTEST = {"bmc3", "bounded", "steps"}
 # Engines that aren't asked about the whole file beside pdr.
 OF_ABC = {"pdr", "bmc3"}
 T = TypeVar("T")
@@ -49,7 +44,7 @@ class SharedProperties(SeparateProperties):
         # Whether ABC's first run is over, and whether what it left is being checked.
         self.first, self.is_checking = threading.Event(), False
         self.scope = Scope(self.scheduler)
-        self.pdr = self.scope.task("pdr")
+        self.pdr = self.scope.task("pdr", ROWS["pdr"].share)
         # The numbers of the properties of which shorter runs were looked for, which is done by one
         # thread at a time.
         self.looked: set[int] = set()
@@ -107,7 +102,8 @@ class SharedProperties(SeparateProperties):
     def shorten(self, abc: MultiProperty) -> None:
         """Has shorter runs checked to properties whose known run may be longer, each once."""
         with self.shortening:
-            inexact = [it for it in self.answers if it.trace and it.engine not in SHORTEST
+            exact = {name for name, row in ROWS.items() if row.is_shortest}
+            inexact = [it for it in self.answers if it.trace and it.engine not in exact
                        and it.number not in self.looked]
             lengths = {it.number: len(it.trace.steps) for it in inexact if it.trace}
             lengths = {number: length for number, length in lengths.items() if length > 1}

@@ -3,15 +3,12 @@ import collections
 import itertools
 import time
 from collections.abc import Iterator
-from typing import TYPE_CHECKING
 
 from aigprove.circuits.witness import read_for
 from aigprove.engines.job import Job
-from aigprove.processes.sealed import Sealed
+from aigprove.processes.files import Sealed
+from aigprove.processes.groups import BackgroundCall
 from aigprove.questions.checker import PAIRS, Claim, Question
-
-if TYPE_CHECKING:
-    from concurrent.futures import Future
 
 # How many proofs are checked at once, beside the next question.
 CHECKS = 2
@@ -49,23 +46,19 @@ class Steps(Asking):
 
     def run(self) -> None:
         """Asks about one step after the other."""
-        # These take a while to be imported.
-        from concurrent.futures import ThreadPoolExecutor
-
         # Steps that unit propagation is tried on, and claims that are being checked.
-        self.tried: dict[int, Future[bool]] = {}
-        self.checking: collections.deque[tuple[int, Claim, Future[None]]] = collections.deque()
+        self.tried: dict[int, BackgroundCall[bool]] = {}
+        self.checking = collections.deque[tuple[int, Claim, BackgroundCall[None]]]()
         propagates = False
-        with ThreadPoolExecutor(CHECKS) as self.pool:
-            for k in self.steps():
-                is_power = k & (k - 1) == 0
-                self.job.progress("step", k)
-                ahead = CHECKS if propagates else 0
-                propagates = (propagates or is_power) and self.propagates(k, ahead)
-                if not propagates and self.reaches(Question("query", k)):
-                    return
-            self.finish()
-            self.job.bound_reached()
+        for k in self.steps():
+            is_power = k & (k - 1) == 0
+            self.job.progress("step", k)
+            ahead = CHECKS if propagates else 0
+            propagates = (propagates or is_power) and self.propagates(k, ahead)
+            if not propagates and self.reaches(Question("query", k)):
+                return
+        self.finish()
+        self.job.bound_reached()
 
     def steps(self) -> Iterator[int]:
         """Yields each step that no engine has shown yet, in order, up to the bound."""
@@ -85,10 +78,8 @@ class Steps(Asking):
         for step in range(k, k + ahead + 1):
             if step not in self.tried:
                 claim = self.propagation(step)
-                self.tried[step] = self.pool.submit(self.checker.shows, claim)
+                self.tried[step] = BackgroundCall(self.checker.shows, claim)
         if not self.tried.pop(k).result():
-            for further in self.tried.values():
-                further.cancel()
             self.tried.clear()
             return False
         self.finish()
@@ -103,7 +94,7 @@ class Steps(Asking):
         if not has_solution:
             self.finish(CHECKS - 1)
             claim = self.source.unsolvable(question, given)
-            check = self.pool.submit(self.checker.check, claim)
+            check = BackgroundCall(self.checker.check, claim)
             self.checking.append((question.k, claim, check))
             return False
         self.finish()

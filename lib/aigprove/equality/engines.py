@@ -3,7 +3,6 @@
 A program of its own guesses it, so that it doesn't wait for what other engines compute. Nothing
 here is believed."""
 import json
-import threading
 
 from aigprove.circuits.aiger import Fault
 from aigprove.engines.abc import path_of_abc
@@ -12,9 +11,8 @@ from aigprove.engines.job import Job, Missing
 from aigprove.equality.incremental import in_turn
 from aigprove.equality.pair import Pair
 from aigprove.output.messages import ending, say
-from aigprove.processes.folder import Folder
+from aigprove.processes.files import Folder, Sealed
 from aigprove.processes.groups import PythonModule
-from aigprove.processes.sealed import Sealed
 from aigprove.questions.checker import Query
 from aigprove.questions.solver import Solver
 
@@ -48,7 +46,6 @@ class CorrespondingRegisters:
         self.solver = job.solver()
         if job.options.solver.is_cadical:
             self.solver = MergingSolver(self.solver.words, job.checker, job.above)
-        self.has_begun = threading.Event()
         # What else the module is given.
         self.further: dict[str, object] = {}
 
@@ -74,7 +71,7 @@ class CorrespondingRegisters:
             server = task.scheduler.server
             words = PythonModule(server, self.guesses, folder.path, json.dumps(asked))
             group = folder.start(task, words)
-            self.has_begun.set()
+            self.job.board.has_begun.set()
             if status := task.finish(group):
                 *_, last = folder.text("err", "message").strip().split("\n")
                 raise Fault(last or f"its program {ending(status)}")

@@ -11,13 +11,10 @@ import sys
 from collections.abc import Iterable, Iterator, Mapping, Sequence
 from typing import Any, Protocol
 
-from aigprove.circuits.aiger import Circuit, Fault, Lines, text_form
-from aigprove.circuits.gates import Gates
-from aigprove.equality.classes import Classes, Different
-from aigprove.equality.implied import Pairs
+from aigprove.circuits.aiger import Circuit, Fault, Gates, Lines, text_form
 from aigprove.equality.incremental import IncrementalQueries, Pair
-from aigprove.equality.merged_nodes import MergedNodes, ordered
-from aigprove.equality.nodes import Nodes
+from aigprove.equality.merged_nodes import MergedNodes, Pairs, ordered
+from aigprove.equality.nodes import Classes, Different, Nodes
 from aigprove.processes.scheduler import Scheduler, Scope
 from aigprove.questions.solver import Undecided
 

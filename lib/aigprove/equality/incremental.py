@@ -4,12 +4,11 @@ It goes on with what it learned. Another solver is asked about all at once. Noth
 believed."""
 from collections.abc import Iterable, Sequence
 
-from aigprove.circuits.aiger import Fault
-from aigprove.circuits.gates import Gates
-from aigprove.processes.folder import Folder
+from aigprove.circuits.aiger import Fault, Gates
+from aigprove.options.options import HINTED
+from aigprove.processes.files import Folder, Sealed
 from aigprove.processes.scheduler import Task
-from aigprove.processes.sealed import Sealed
-from aigprove.questions.solver import ASSUMING, HINTED, ended, true_of
+from aigprove.questions.solver import ASSUMING, ended, true_of
 
 Pair = tuple[int, int]
 

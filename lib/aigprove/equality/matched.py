@@ -1,25 +1,64 @@
 """What is matched of two files that are compared: registers with open start by order or by name, as
 aigedit and aigcheck do themselves; and of designs inputs, outputs and bad literals by their names,
-for which the second one's file is put in order."""
+for which the second one's file is put in order. And what one file has and the other hasn't."""
 import collections
 import copy
 import re
-from collections.abc import Iterable, Iterator, Mapping, Sequence
+from collections.abc import Container, Iterable, Iterator, Mapping, Sequence
 
 from aigprove.circuits.aiger import KINDS, Circuit, Symbols, decoded, encoded
-from aigprove.equality.mismatch import SIGNALS
+from aigprove.options.options import APART, BY_NAME, BY_ORDER, STARTS
 from aigprove.output.messages import escaped
 from aigprove.output.signals import word
 
+# The names of signals of a kind, and whether all of them have one.
+SomeNames = tuple[list[bytes], bool]
+# How many names are said of each file.
+MOST_NAMED = 10
+# By the letter of a kind: its words, and what it is called in a header.
+SIGNALS = {"i": ("inputs", "inputs"), "o": ("outputs", "outputs"), "b": ("bad literals", "bads")}
 Named = Circuit | Symbols
 
-# How registers with open start begin: each as it likes, or like that of the other file which is
-# matched so.
-APART, BY_ORDER, BY_NAME = STARTS = ["apart", "by-order", "by-name"]
-# What stands then behind the names of commands.
+# What stands behind the names of commands, by how registers with open start begin.
 SUFFIXES = {way: "" if way == APART else f"-alike-{way}" for way in STARTS}
 # How many names are told at once; and such as programs make, without the index of a bit or with it.
 NAMED, MADE = 10, re.compile(r"_[0-9]+_(\[[0-9]+\])?")
+
+
+def names_of(circuit: Circuit, letter: str, count: int) -> SomeNames:
+    """Returns the names of the signals of a kind, of which there are so many, and whether all have
+    one."""
+    names = [circuit.names[letter, i] for i in range(count) if (letter, i) in circuit.names]
+    return names, len(names) == count
+
+
+def names_alone(path: str, own: SomeNames, other: SomeNames) -> list[str]:
+    """Returns which names one file has alone, in a list of one, where they tell that: where each
+    signal of the other one has a name."""
+    names, (others, has_all) = own[0], other
+    found = [word(decoded(name)) for name in names if has_all and name not in others]
+    more = ["and others"] * (len(found) > MOST_NAMED)
+    return [f"{path} alone has {', '.join([*found[:MOST_NAMED], *more])}"] if found else []
+
+
+def described(letter: str,
+              paths: Sequence[str], circuits: Sequence[Circuit], is_named: bool) -> str:
+    """Returns how many signals of a kind two files have, and the names of those that one of them
+    has alone, where they are to have the same."""
+    what, attribute = SIGNALS[letter]
+    counts = [getattr(circuit.header, attribute) for circuit in circuits]
+    first, other = (names_of(circuit, letter, count) for circuit, count in zip(circuits, counts))
+    is_told = is_named or counts[0] != counts[1]
+    found = [*names_alone(paths[0], first, other),
+             *names_alone(paths[1], other, first)] if is_told else []
+    return f"{counts[0]} and {counts[1]} {what}" + f" ({'; '.join(found)})" * bool(found)
+
+
+def mismatch(paths: Sequence[str], circuits: Sequence[Circuit], named: Container[str] = "") -> str:
+    """Returns the line that says why two files don't fit, whose signals of some kinds, by these
+    letters, have other names."""
+    parts = [described(letter, paths, circuits, letter in named) for letter in SIGNALS]
+    return f"{' and '.join(paths)} don't fit: {', '.join(parts)}"
 
 
 def partners(way: str, first: Circuit, other: Circuit) -> dict[int, int]:

@@ -1,6 +1,5 @@
 """Two files that are compared: their miter, which aigedit makes, is asked about."""
 import copy
-import dataclasses
 from collections.abc import Iterator, Mapping, Sequence
 
 from aigprove.circuits import simulation
@@ -10,20 +9,17 @@ from aigprove.circuits.simulation import SIMULATED
 from aigprove.circuits.witness import Witness
 from aigprove.designs.front_ends import kind_of
 from aigprove.equality import matched
-from aigprove.equality.matched import APART, BY_NAME, Starts
-from aigprove.equality.mismatch import SIGNALS, mismatch
-from aigprove.options.options import DesignOptions, Options
+from aigprove.equality.matched import SIGNALS, Starts, mismatch
+from aigprove.options.options import APART, BOTH, BY_NAME, COMPARED, FIRST, DesignOptions, Options
 from aigprove.output.evidence import Evidence
 from aigprove.output.signals import Signals, word
-from aigprove.processes.background import BackgroundCall
-from aigprove.processes.sealed import Sealed
+from aigprove.processes.files import Sealed
+from aigprove.processes.groups import BackgroundCall
 from aigprove.questions.checker import MISFIT, Checker, Claim, Question
 from aigprove.questions.input_file import InputFile
 from aigprove.questions.target import Target
 
-# What constraints say: compared runs meet those of both files, or those of the first alone, or they
-# are compared, too; and what stands then behind lines.
-BOTH, FIRST, COMPARED = CONSTRAINTS = ["both", "first", "compared"]
+# What stands behind lines, by what constraints say.
 BEHIND = {BOTH: "", FIRST: ", under the constraints of the first alone",
           COMPARED: ", constraints too"}
 # How many outputs that differ are named, and how many seconds initial values are looked for that
@@ -69,7 +65,7 @@ class Pair(Target):
 
         If the first can't be read, or a signal comes, no reading goes on."""
         design = of_second(options.design, other)
-        reading = BackgroundCall(InputFile, [other], dataclasses.replace(design, is_quiet=True),
+        reading = BackgroundCall(InputFile, [other], design._replace(is_quiet=True),
                                  above, self.checker, "other")
         try:
             first = InputFile(options.files, options.design, above, self.checker)
@@ -317,7 +313,7 @@ class Pair(Target):
         start = list(found.start)
         for place, partner in self.started().items():
             start[partner] = start[partner] if start[place] == "x" else start[place]
-        return dataclasses.replace(found, start="".join(start))
+        return found._replace(start="".join(start))
 
     def opened(self, circuit: Circuit, trace: Witness) -> set[int]:
         return super().opened(circuit, trace) - self.started().keys()
@@ -349,7 +345,7 @@ def of_second(options: DesignOptions, path: str) -> DesignOptions:
 
     A top module, parameters and boxes are of FILE alone, and so is all else if this one isn't a
     design."""
-    own = dataclasses.replace(options, top=None, parameter=(), black_box=())
+    own = options._replace(top=None, parameter=(), black_box=())
     if kind_of(path, b""):
         return own
-    return dataclasses.replace(own, reset=None, multiclock=False, define=(), include=())
+    return own._replace(reset=None, multiclock=False, define=(), include=())

@@ -5,16 +5,14 @@ import collections
 import random
 from collections.abc import Iterable, Iterator
 
-from aigprove.circuits.aiger import Fault, Header, Lines
-from aigprove.circuits.gates import Gates, binary
+from aigprove.circuits.aiger import Fault, Gates, Header, Lines, binary
 from aigprove.equality import guesses
-from aigprove.equality.classes import Classes
 from aigprove.equality.guesses import AHEAD, Guess, Guesses, Steps
 from aigprove.equality.incremental import IncrementalQueries, Pair
 from aigprove.equality.merged_nodes import ordered
-from aigprove.equality.nodes import Nodes
+from aigprove.equality.nodes import Classes, Nodes
 from aigprove.output.messages import ending
-from aigprove.processes.folder import Folder
+from aigprove.processes.files import Folder
 
 # What ABC does with a machine each of whose nodes is an output: it unites nodes of which a step
 # shows that they are always equal. With nodes of next steps it moves registers forward before that,

@@ -1,12 +1,19 @@
 """What a command line asks for, as it stays from then on."""
-from dataclasses import dataclass
+from typing import NamedTuple
 
-from aigprove.processes.sealed import Sealed
-from aigprove.questions.solver import HINTED
+from aigprove.processes.files import Sealed
+
+# What cadical is told for a proof with hints.
+HINTED = "--lrat=1"
+# How registers with open start begin: each as it likes, or like that of the other file which is
+# matched so.
+APART, BY_ORDER, BY_NAME = STARTS = ["apart", "by-order", "by-name"]
+# What constraints say: compared runs meet those of both files, or those of the first alone, or they
+# are compared, too.
+BOTH, FIRST, COMPARED = CONSTRAINTS = ["both", "first", "compared"]
 
 
-@dataclass(frozen=True)
-class Reset:
+class Reset(NamedTuple):
     """A reset in the first steps."""
 
     signal: str
@@ -18,8 +25,7 @@ class Reset:
         return f"{self.signal}={self.value} {when}"
 
 
-@dataclass(frozen=True)
-class DesignOptions:
+class DesignOptions(NamedTuple):
     """How a design is read."""
 
     top: str | None
@@ -38,8 +44,7 @@ class DesignOptions:
     deadline: float
 
 
-@dataclass(frozen=True)
-class SolverOptions:
+class SolverOptions(NamedTuple):
     """How a SAT solver is called: no words where cadical isn't installed."""
 
     words: tuple[str, ...]
@@ -53,8 +58,7 @@ class SolverOptions:
         return self.is_cadical and HINTED not in self.words
 
 
-@dataclass(frozen=True)
-class Programs:
+class Programs(NamedTuple):
     """The paths of the programs that are trusted."""
 
     aigtool: str
@@ -62,8 +66,7 @@ class Programs:
     aigcheck: str
 
 
-@dataclass(frozen=True)
-class Options:
+class Options(NamedTuple):
     """What a command line asks for. Files that are checked are sealed copies."""
 
     files: tuple[str, ...]

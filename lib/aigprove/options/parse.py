@@ -1,18 +1,93 @@
-"""From the words of a command line to options."""
+"""From the words of a command line, and of files that hold such (-f), to options."""
 import argparse
 import math
+import os
 import re
+import shlex
+import shutil
+import subprocess
 import time
-from collections.abc import Sequence
+from collections.abc import Iterable, Sequence
 
+from aigprove.circuits.aiger import Fault
 from aigprove.designs.front_ends import ASSERT, COVER, FAIR, LIVE
-from aigprove.options.lists import listed
-from aigprove.options.options import DesignOptions, Options, Programs, SolverOptions
+from aigprove.engines.rows import FILES, PAIRS, names_of
+from aigprove.options.options import HINTED, DesignOptions, Options, Programs, SolverOptions
 from aigprove.options.parser import END, PROGRAMS, Parser, make_parser
-from aigprove.options.programs import found, trusted
-from aigprove.options.words import ENGINES, FOR_PAIRS
 from aigprove.processes.files import sealed
-from aigprove.questions.solver import cadical
+
+# How many lists of files may be in one another.
+MOST_LISTS = 16
+# What may stand there beside files.
+LISTED = ("-D", "-I", "-f")
+TOP = os.path.realpath(os.path.join(os.path.dirname(os.path.realpath(__file__)), "../../.."))
+
+
+def listed(line: Sequence[str], depth: int = 0) -> list[str]:
+    """Returns a command line with the words of each list in the place of -f and its name."""
+    found: list[str] = []
+    words = iter(line)
+    for word in words:
+        if word == "--":
+            return [*found, word, *words]
+        path = (word[2:] or next(words, "")) if word.startswith("-f") else ""
+        found += of_list(path, depth) if path else [word]
+    return found
+
+
+def of_list(path: str, depth: int) -> list[str]:
+    """Returns the words of a list of files, which may have others in it."""
+    if depth > MOST_LISTS:
+        raise Fault(f"{path} is in itself")
+    text = sealed(path).data().decode("utf-8", "surrogateescape")
+    words: list[str] = []
+    given = iter(shlex.split(re.sub(r"(?m)(^|\s)//.*", "", text), comments=True))
+    for word in given:
+        # As other tools spell them.
+        kind, *values = word.split("+")[1:] if word.startswith("+") else [""]
+        flag = {"incdir": "-I", "define": "-D"}.get(kind)
+        if flag:
+            words += [flag + value for value in values if value]
+        else:
+            words.append(word + next(given, "") if word in LISTED else word)
+        if word.startswith("-") and not word.startswith(LISTED):
+            raise Fault(f"{path}: {word} is no file, -D, -I or -f")
+    return listed(words, depth + 1)
+
+
+def program(places: Iterable[str], missing: str) -> str:
+    """Returns the path of the first of some programs that is there."""
+    for place in places:
+        if path := shutil.which(place):
+            return os.path.abspath(path)
+    raise Fault(missing)
+
+
+def trusted(name: str, given: str | None) -> str:
+    """Returns the path of one of our programs.
+
+    That is the one that is given, beside this script, built here, or in PATH."""
+    built = [os.path.join(TOP, "bin", name), os.path.join(TOP, "crates", name, "out", name)]
+    missing = f"{given or name} is not there; " \
+        f"tests/run builds it, and so does `rt run` in crates/{name}"
+    return program([given] if given else [*built, name], missing)
+
+
+def found(name: str) -> str:
+    """Returns the path of another program."""
+    return program([name], f"{name} is not there")
+
+
+def cadical() -> list[str]:
+    """Returns the words that call cadical for a proof in text, with hints if it knows them.
+
+    There are none if it isn't installed."""
+    try:
+        options = subprocess.run(["cadical", "--help"], stdin=subprocess.DEVNULL,
+                                 capture_output=True).stdout
+    except FileNotFoundError:
+        return []
+    return ["cadical", "-q", "--no-binary", *[HINTED] * (b"--lrat" in options)]
 
 
 def marked(line: Sequence[str]) -> list[str]:
@@ -32,9 +107,11 @@ def parse(line: Sequence[str]) -> Options:
     words.each = words.each or words.tasks or bool(words.gather)
     check_each(parser, words)
     check_together(parser, words)
-    deadline = math.inf if words.timeout is None else time.monotonic() + words.timeout
+    seconds = math.inf if words.timeout is None else words.timeout
+    deadline = time.monotonic() + seconds - age()
     given = words.certificate or words.run
-    engines = [] if given else [*(FOR_PAIRS if words.equal else []), *ENGINES]
+    kinds = [] if given else [*[PAIRS] * bool(words.equal), FILES]
+    engines = [name for kind in kinds for name in names_of(kind)]
     certificate, run = (sealed(path, words.limit) if path else None
                         for path in [words.certificate, words.run])
     programs = Programs(*(trusted(name, getattr(words, name)) for name in PROGRAMS))
@@ -47,6 +124,13 @@ def parse(line: Sequence[str]) -> Options:
         abc=words.abc and found(words.abc), engines=tuple(words.engine or engines),
         are_engines_named=bool(words.engine), certificate=certificate, run=run,
         deadline=deadline, **{name: getattr(words, name) for name in names})
+
+
+def age() -> float:
+    """Returns for how many seconds this process has run, which may have begun slowly."""
+    with open("/proc/self/stat", encoding="utf-8", errors="replace") as file:
+        begun = int(file.read().rpartition(")")[2].split()[19])
+    return time.clock_gettime(time.CLOCK_BOOTTIME) - begun / os.sysconf("SC_CLK_TCK")
 
 
 def take_top(parser: Parser, words: argparse.Namespace) -> None:

@@ -1,74 +1,25 @@
-"""The words that the command line may have, and their help."""
+"""The words that the command line may have, and what they stand for.
+
+A row of `words.txt` has the flags of an option, what stands behind it, and its help."""
 import argparse
 import os
+import re
 import shlex
 import sys
-from typing import IO, NoReturn
+from collections.abc import Callable
+from typing import IO, Any, NoReturn, TypeVar
 
 from aigprove import VERSION
 from aigprove.data import text
-from aigprove.equality.matched import STARTS
-from aigprove.equality.pair import CONSTRAINTS
-from aigprove.options import words
+from aigprove.engines.rows import ROWS
+from aigprove.options.options import CONSTRAINTS, STARTS, Reset
 from aigprove.output.messages import escaped, tell
 
+Number = TypeVar("Number", int, float)
 PROGRAMS = ["aigtool", "aigedit", "aigcheck"]
 # Stands in the place of --, and is nothing that a command line can have.
 END = "--\0"
-# Options that name files, folders and programs.
-NAMED = [
-    ("equal", "OTHER", "compare FILE with this file"),
-    ("certificate", "CERT", "check a witness circuit, perhaps with functions as resets, or an "
-     "inductive machine in AIGER form that somebody else made, or an invariant that pdr of ABC "
-     "wrote of FILE"),
-    ("write-certificate", "OUT", "write a certificate of the answer that no bad state is reached "
-     "to OUT, a witness circuit"),
-    ("run", "WITNESS", "check a witness that somebody else made, or what ABC's write_cex wrote"),
-    ("keep", "FOLDER", "make FOLDER, with what shows each line, and check.sh, which shows it "
-     "again"),
-    ("witness", "OUT", "write the witness of a bad state to OUT, in the form of the AIGER report"),
-    ("vcd", "OUT", "write the run to a bad state to OUT, as a value change dump for wave viewers"),
-    ("json", "OUT", "with --each: write the table to OUT in JSON"),
-    ("junit", "OUT", "with --each: write the table to OUT as JUnit's XML"),
-    ("gather", "FOLDER", "print the table of what is kept in FOLDER and in folders in it, each "
-     "line of which aigcheck checks again"),
-    *((program, "PROGRAM", f"another program {program} than the one that is found")
-      for program in ["abc", *PROGRAMS]),
-]
-FILES = "a file in AIGER form, text or binary, which may be packed by gzip; or the files of a " \
-    "design, in order: Verilog (.v, .sv), an .il file or a script (.ys) of yosys, or BLIF " \
-    "(.blif); - is standard input"
-TOP = "the top module of a design (the one that no other has); a last word that may be a name, " \
-    "as TOP, says it too"
-LISTED = "put the words of this file here: files, -D, -I and -f, with # or // for comments"
-BOXES = "let the outputs of this module, of which there are the ports alone, have any values in " \
-    "each step"
-MULTICLOCK = "take several clocks, and both edges: a step is a moment, in which each input may " \
-    "change, clocks too"
-HELD = "hold this input of a design at V (1) in the first N steps (1), in which assertions don't " \
-    "count; later it is free, and where it is to stay released the design has to assume so; with " \
-    "--multiclock its steps are moments, in which a clock may stand still"
-AIGER = "print the answer alone, as the AIGER report has it: 1 and a witness, 0 (none at any " \
-    "step) or 2 (neither), each with status 0"
-EACH = "ask about each property by itself, and print a table; --keep goes on in a folder that is " \
-    "there, and --witness and --vcd make folders with a file for each run"
-SHORTEST = "with --each: look for the shortest run to each property as long as it takes " \
-    "(2 seconds)"
-TASKS = "print a command for each property and engine, each of which keeps what it shows in a " \
-    "folder of its own in that of --keep"
-FAIR = "ask about this justice property, from 0 on, and not about bad states: whether a run " \
-    "without end is fair"
-BEGIN = "with --equal: registers with open start begin each as it likes, or like those of the " \
-    "other file that are matched so (by-name for two designs, else apart)"
-ALLOWED = "with --equal: compare runs that meet the constraints of both files, or those of FILE " \
-    "alone, or compare constraints, too: whether both files meet theirs at the same steps (both)"
-BOUND = "ask about the steps 0 to N; once they were shown, other engines have as long again, and " \
-    "a second (no bound)"
-MEMORY = "let each program that is run have N MiB of memory at most (all that there is)"
-JOBS = "run so many programs at once, and others by turns (one for each processor)"
-ASKED = "ask these engines alone, with commas between; abc is bmc3 and pdr"
-SOLVER = "a SAT solver that writes a proof in text: it is given a DIMACS file and the proof's " \
-    "name (cadical)"
+IDENTIFIER = "[A-Za-z_][A-Za-z0-9_$]*"
 
 
 class Parser(argparse.ArgumentParser):
@@ -86,83 +37,107 @@ class Parser(argparse.ArgumentParser):
             tell(message, end="")
 
 
+def count(pattern: str, what: str, kind: Callable[[str], Number],
+          most: int = (1 << 32) - 1) -> Callable[[str], Number]:
+    """Returns the type of words with this spelling, which are numbers up to the greatest."""
+
+    def taken(word: str) -> Number:
+        if not re.fullmatch(pattern, word) or kind(word) > most:
+            raise argparse.ArgumentTypeError(f"{word} is no number of {what}")
+        return kind(word)
+
+    return taken
+
+
 def mebibytes(word: str) -> int:
     """Returns how many bytes a number of MiB is."""
     return int(word) << 20
 
 
-def add_designs(it: argparse.ArgumentParser) -> None:
-    """Adds the words that say what is asked about, and how a design is read."""
-    it.add_argument("files", metavar="FILE", type=words.nonempty, nargs="+", help=FILES)
-    it.add_argument("--top", metavar="TOP", help=TOP)
-    it.add_argument("-f", metavar="LIST", help=LISTED)
-    it.add_argument("-D", "--define", metavar="NAME[=TEXT]", type=words.macro, action="append",
-                    default=[], help="define a macro of Verilog (1)")
-    it.add_argument("-I", "--include", metavar="FOLDER", type=words.nonempty, action="append",
-                    default=[], help="look for included files here too")
-    it.add_argument("--parameter", metavar="NAME=NUMBER", type=words.parameter, action="append",
-                    default=[], help="set a parameter of the top module")
-    it.add_argument("--black-box", metavar="NAME", type=words.module, action="append",
-                    default=[], help=BOXES)
-    it.add_argument("--multiclock", action="store_true", help=MULTICLOCK)
-    it.add_argument("--reset", metavar="SIGNAL[=V][:N]", type=words.reset, help=HELD)
+def nonempty(word: str) -> str:
+    """Returns the name of a file."""
+    if not word:
+        raise argparse.ArgumentTypeError("an empty name is no file's")
+    return word
 
 
-def add_questions(it: argparse.ArgumentParser) -> None:
-    """Adds the words that say what is asked, and how it is printed."""
-    loud = it.add_mutually_exclusive_group()
-    loud.add_argument("-v", "--verbose", action="store_true",
-                      help="say on standard error which engine answered, and when")
-    loud.add_argument("-q", "--quiet", action="store_true", help="print the line of the answer "
-                      "alone, and only faults on standard error")
-    it.add_argument("--aiger", action="store_true", help=AIGER)
-    it.add_argument("--version", action="version", version=f"aigprove {VERSION}")
-    it.add_argument("--each", action="store_true", help=EACH)
-    it.add_argument("--shortest", action="store_true", help=SHORTEST)
-    it.add_argument("--tasks", action="store_true", help=TASKS)
-    it.add_argument("--property", metavar="N", type=words.count("[0-9]{1,10}", "a property", int),
-                    help="ask about property N alone (from 0 on)")
-    it.add_argument("--justice", metavar="J", help=FAIR,
-                    type=words.count("[0-9]{1,10}", "a justice property", int))
-    it.add_argument("--starts", choices=STARTS, help=BEGIN)
-    it.add_argument("--constraints", choices=CONSTRAINTS, help=ALLOWED)
+def reset(word: str) -> Reset:
+    """Returns a reset that is spelled SIGNAL, SIGNAL=V, or either with :N."""
+    found = re.fullmatch(f"({IDENTIFIER})(?:=([01]))?(?::([1-9][0-9]{{0,3}}))?", word)
+    if not found:
+        raise argparse.ArgumentTypeError(
+            f"{word} is no signal with a value 0 or 1 and a number of steps, as rst_n=0:2")
+    return Reset(found[1], int(found[2] or 1), int(found[3] or 1))
 
 
-def add_limits(it: argparse.ArgumentParser) -> None:
-    """Adds the words that say how long and how far is looked."""
-    it.add_argument("--bound", metavar="N", type=words.count("[0-9]{1,10}", "steps", int),
-                    help=BOUND)
-    it.add_argument("--timeout", metavar="S", help="end after so many seconds, with those of yosys "
-                    "(never)", type=words.count(r"[0-9]{1,9}(\.[0-9]{1,9})?", "seconds", float))
-    it.add_argument("--limit",
-                    metavar="N", help="take circuits of so many nodes, up to 2^31 (2^24)",
-                    type=words.count("[1-9][0-9]{0,9}", "nodes", int, most=1 << 31))
-    it.add_argument("--memory", metavar="N", help=MEMORY,
-                    type=words.count("[1-9][0-9]{0,9}", "MiB", mebibytes, most=1 << 62))
-    it.add_argument("--jobs", metavar="N", default=len(os.sched_getaffinity(0)), help=JOBS,
-                    type=words.count("[1-9][0-9]{0,4}", "programs", int))
-    it.add_argument("--engine", metavar="NAMES", type=words.engines, help=ASKED)
+def macro(word: str) -> tuple[str, str]:
+    """Returns the name and the text of a macro."""
+    name, is_given, value = word.partition("=")
+    is_name = re.fullmatch(IDENTIFIER, name)
+    if not is_name or not value.isprintable() or value.endswith("\\"):
+        raise argparse.ArgumentTypeError(f"{word} is no NAME or NAME=TEXT of one line, as WIDTH=8")
+    return name, value if is_given else "1"
 
 
-def about() -> str:
-    """Returns what the help says before the words."""
-    return text("options/about.txt")
+def module(word: str) -> str:
+    """Returns the name of a module."""
+    if not re.fullmatch(IDENTIFIER, word):
+        raise argparse.ArgumentTypeError(f"{word} is no name of a module")
+    return word
 
 
-def ends() -> str:
-    """Returns what the help says of exit statuses."""
-    return text("options/ends.txt")
+def parameter(word: str) -> tuple[str, str]:
+    """Returns the name and the value of a parameter."""
+    value = "-?[0-9]+|[0-9]+'s?(?:b[01_]+|o[0-7_]+|d[0-9_]+|h[0-9A-Fa-f_]+)"
+    found = re.fullmatch(f"({IDENTIFIER})=({value})", word)
+    if not found:
+        raise argparse.ArgumentTypeError(
+            f"{word} is no NAME=NUMBER, as WIDTH=8 or MODE=2'b10 (-D gives a text)")
+    return found[1], found[2]
+
+
+def engines(word: str) -> list[str]:
+    """Returns the names of engines."""
+    names = word.replace("abc", "bmc3,pdr").split(",")
+    if not set(names) <= set(ROWS):
+        raise argparse.ArgumentTypeError(f"{word} names others than {', '.join(ROWS)} and abc")
+    return names
+
+
+def made_by() -> dict[str, dict[str, Any]]:
+    """Returns how options are read, by the last of their flags, but for names and switches."""
+    several: dict[str, Any] = {"action": "append", "default": []}
+    index, positive = "[0-9]{1,10}", "[1-9][0-9]{0,9}"
+    return {
+        "files": {"type": nonempty, "nargs": "+"}, "--top": {}, "-f": {},
+        "--define": {"type": macro, **several}, "--include": {"type": nonempty, **several},
+        "--parameter": {"type": parameter, **several}, "--black-box": {"type": module, **several},
+        "--reset": {"type": reset},
+        "--version": {"action": "version", "version": f"aigprove {VERSION}"},
+        "--property": {"type": count(index, "a property", int)},
+        "--justice": {"type": count(index, "a justice property", int)},
+        "--starts": {"choices": STARTS}, "--constraints": {"choices": CONSTRAINTS},
+        "--bound": {"type": count(index, "steps", int)},
+        "--timeout": {"type": count(r"[0-9]{1,9}(\.[0-9]{1,9})?", "seconds", float)},
+        "--limit": {"type": count(positive, "nodes", int, most=1 << 31)},
+        "--memory": {"type": count(positive, "MiB", mebibytes, most=1 << 62)},
+        "--jobs": {"type": count("[1-9][0-9]{0,4}", "programs", int),
+                   "default": len(os.sched_getaffinity(0))},
+        "--engine": {"type": engines}, "--solver": {"type": shlex.split},
+    }
 
 
 def make_parser() -> Parser:
     """Returns the parser of the command line."""
-    it = Parser("aigprove", description=about(), epilog=ends(),
+    it = Parser("aigprove", description=text("options/about.txt"), epilog=text("options/ends.txt"),
                 formatter_class=argparse.RawDescriptionHelpFormatter)
-    add_designs(it)
-    add_questions(it)
-    add_limits(it)
-    for option, metavar, what in NAMED:
-        it.add_argument(f"--{option}", metavar=metavar, type=words.nonempty, help=what)
-    it.add_argument("--solver", metavar="WORDS", type=shlex.split, help=SOLVER)
+    loud, made = it.add_mutually_exclusive_group(), made_by()
+    for row in text("options/words.txt").splitlines():
+        words, behind, told = row.split("\t")
+        *_, name = flags = words.split(" ")
+        named: dict[str, Any] = {"metavar": behind} if behind else {}
+        other: dict[str, Any] = {"type": nonempty} if behind else {"action": "store_true"}
+        group = loud if name in ("--verbose", "--quiet") else it
+        group.add_argument(*flags, help=told, **named, **made.get(name, other))
     it.add_argument(END, action="store_true", dest="end", help=argparse.SUPPRESS)
     return it

@@ -3,13 +3,12 @@ import os
 import shlex
 from collections.abc import Iterable, Iterator
 
+from aigprove.engines.rows import tasks
 from aigprove.options.options import Options
 from aigprove.output.report import PropertyAnswer
 from aigprove.questions.bad_states import BadStates
 from aigprove.questions.justice import Justices
 
-# What one command asks: engines that need one another go together.
-TOGETHER = [("bmc3",), ("pdr",), ("bounded",), ("steps", "windows")]
 # Seconds that a command has, if none are given.
 SECONDS = 60
 
@@ -26,7 +25,7 @@ def lines(options: Options, sources: Iterable[BadStates | Justices],
              for word in (f"--{name}", str(number))]
     seconds = SECONDS if options.timeout is None else options.timeout
     for source, answer in ((source, answer) for source in sources for answer in answers):
-        for engines in TOGETHER if answer.letter == source.letter else []:
+        for engines in tasks() if answer.letter == source.letter else []:
             names = [name for name in engines if name in options.engines]
             if names:
                 number, file = str(answer.number), os.path.join(folder, source.name)

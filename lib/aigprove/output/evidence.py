@@ -1,33 +1,54 @@
-"""What is kept of an answer: files, and a script that shows it again."""
+"""What is kept of an answer: files, the commands that show each line, and a script that runs
+these."""
+import functools
+import hashlib
+import json
 import os
-import shlex
+import threading
+from collections.abc import Iterable
+from typing import Any
 
+from aigprove import VERSION
+from aigprove.circuits.aiger import Fault
 from aigprove.data import text
-from aigprove.processes.files import write
-from aigprove.processes.sealed import Sealed
-from aigprove.questions.checker import Claim
+from aigprove.processes.files import Sealed, write
+from aigprove.processes.scheduler import Task
+from aigprove.questions.checker import Checker, Claim
 
 # How the path of a file in the folder above begins.
 ABOVE = "../"
-# How each script begins.
-HEAD = text("output/check_head.sh")
+EVIDENCE, SCRIPT = "evidence.json", "check.sh"
 
 
-def limited(limit: int | None) -> list[str]:
-    """Returns the line of a script whose programs take so many nodes, if a number is given."""
-    return [] if limit is None else [f"limit='--limit {limit}'\n"]
+@functools.cache
+def version(task: Task, path: str) -> str | None:
+    """Returns the version that a program tells, if it does."""
+    status, printed, _ = task.output([path, "--version"])
+    return None if status else printed.strip()
 
 
 class Evidence:
-    """A folder that is filled, and the lines of its script.
+    """A folder that is filled, and what shows lines again there, in order.
 
     Its programs take so many nodes, if a number is given."""
 
-    def __init__(self, folder: str, limit: int | None = None) -> None:
-        self.folder, self.lines = folder, [HEAD, *limited(limit)]
-        # What is in the folder.
+    def __init__(self, folder: str, checker: Checker, limit: int | None = None) -> None:
+        self.folder, self.lock = folder, threading.Lock()
+        # What is in the folder, and the sums of those files that are evidence.
         self.names: set[str] = set()
-        os.mkdir(folder)
+        self.sums: dict[str, str] = {}
+        # Which engine answered after how many seconds; the steps; the folders in this one, and the
+        # lines of a table, if these are printed alone.
+        programs = {"aigcheck": checker.aigcheck[0], "aigedit": checker.aigedit[0]}
+        versions = {name: version(checker.task, path) for name, path in programs.items()}
+        self.kept: dict[str, Any] = {
+            "versions": {"aigprove": VERSION, **versions}, "limit": limit, "engine": None,
+            "seconds": None, "files": self.sums, "steps": [], "parts": [], "table": None}
+        self.open()
+
+    def open(self) -> None:
+        """Makes the folder."""
+        os.mkdir(self.folder)
 
     def path(self, name: str) -> str:
         """Returns the path of a file in the folder."""
@@ -35,38 +56,79 @@ class Evidence:
 
     def put(self, name: str, file: Sealed) -> None:
         """Puts a sealed file into the folder, once."""
-        if name not in self.names:
-            self.names.add(name)
-            with open(file.path, "rb") as given:
-                write(self.path(name), iter(lambda: given.read(1 << 20), b""), "xb")
+        if name not in self.sums:
+            given = hashlib.sha256()
+            for block in file.blocks():
+                given.update(block)
+            self.sums[name] = given.hexdigest()
+            self.put_new(name, file)
 
-    def add(self, *words: str) -> None:
-        """Adds a line of these words."""
-        self.lines.append(shlex.join(words) + "\n")
+    def put_new(self, name: str, file: Sealed) -> None:
+        """Puts a file into the folder that isn't there yet."""
+        write(self.path(name), file.blocks(), "xb")
+
+    def add(self, **step: object) -> None:
+        """Adds a step."""
+        self.kept["steps"].append(step)
 
     def shows(self, claim: Claim) -> None:
-        """Keeps a claim's files, but for those of a folder above, and adds its line."""
+        """Keeps a claim's files, but for those of a folder above, and adds how it is shown."""
         for name, file in claim.files.items():
             if not name.startswith(ABOVE):
                 self.put(name, file)
-        self.add("shows", claim.line, *claim.words)
+        self.add(shows=claim.line, by=list(claim.words))
 
     def note(self, engine: str, seconds: float) -> None:
-        """Notes in the script which engine answered, and after how many seconds."""
-        self.lines.append(f"# {engine} answered after {seconds:.1f} s\n")
+        """Notes which engine answered, and after how many seconds."""
+        self.kept |= {"engine": engine, "seconds": round(seconds, 1)}
 
     def makes(self, name: str, file: Sealed, *words: str) -> None:
         """Puts a file into the folder, and adds the words with which aigedit prints it."""
         self.put(name, file)
-        self.add("makes", name, *words)
+        self.add(makes=name, by=list(words))
+
+    def says(self, line: str) -> None:
+        """Adds a line that follows from others."""
+        self.add(says=line)
 
     def part(self, name: str) -> None:
-        """Adds the script of a folder in this one."""
-        script = f"./{shlex.quote(name)}/check.sh"
-        self.lines.append(f"AIGCHECK=$check AIGEDIT=$edit {script} || exit 1\n")
+        """Adds what is kept in a folder in this one."""
+        self.kept["parts"].append(name)
 
     def end(self, mode: str = "xb") -> None:
-        """Writes the script."""
-        path = self.path("check.sh")
-        write(path, (line.encode() for line in self.lines), mode)
-        os.chmod(path, 0o755)
+        """Writes what shows the lines, and the script, which has the same bytes each time."""
+        write(self.path(EVIDENCE), [json.dumps(self.kept, indent=1).encode(), b"\n"], mode)
+        write(self.path(SCRIPT), [text("output/check.py").encode()], mode)
+        os.chmod(self.path(SCRIPT), 0o755)
+
+
+class EvidenceFolder(Evidence):
+    """What is kept of several questions: the files that were asked about, and for each question a
+    folder. It may be there already: what is in it stays."""
+
+    def open(self) -> None:
+        os.makedirs(self.folder, exist_ok=True)
+        self.names = set(os.listdir(self.folder))
+
+    def new(self, stem: str) -> str:
+        """Returns a name for a new folder in it."""
+        with self.lock:
+            names = [stem, *(f"{stem}-{i}" for i in range(1, len(self.names) + 2))]
+            name = next(it for it in names if it not in self.names)
+            self.names.add(name)
+            self.part(name)
+            return name
+
+    def put_new(self, name: str, file: Sealed) -> None:
+        """Puts a file into the folder, or looks that the one that is there is the same."""
+        if name not in self.names:
+            super().put_new(name, file)
+            return
+        with open(self.path(name), "rb") as there:
+            if there.read() != file.data():
+                raise Fault(f"{self.path(name)} is another file than what is asked about")
+
+    def end_with(self, lines: Iterable[str]) -> None:
+        """Writes what shows the lines of a table again, which are printed alone."""
+        self.kept["table"] = list(lines)
+        self.end("wb")

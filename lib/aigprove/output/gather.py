@@ -2,32 +2,30 @@
 
 Each line is believed once aigcheck prints it again, of the file that is asked about now."""
 import concurrent.futures
+import json
 import os
 import re
-import shlex
 import stat
 from collections.abc import Iterable, Iterator, Sequence
-from dataclasses import dataclass, field
+from typing import Any, NamedTuple
 
 from aigprove.circuits.aiger import Fault
 from aigprove.circuits.witness import Witness, read_for
 from aigprove.engines.separate import SeparateProperties
-from aigprove.output.evidence import ABOVE
-from aigprove.output.folders import PART, EvidenceFolder
+from aigprove.output.evidence import ABOVE, EVIDENCE, EvidenceFolder
 from aigprove.output.messages import reason, say
 from aigprove.output.report import PropertyAnswer
-from aigprove.processes.files import NODE
-from aigprove.processes.sealed import Sealed
-from aigprove.questions import endless
+from aigprove.processes.files import NODE, Sealed
+from aigprove.questions.assumptions import ENDLESS
 from aigprove.questions.bad_states import BadStates
 from aigprove.questions.checker import Checker, Claim, header_of
 from aigprove.questions.justice import Justices
 
 # The commands of aigcheck whose lines say something of one file.
 COMMANDS = {"refuted", "inductive", "certified", "run", "safe"}
-SCRIPT, PROPERTY = "check.sh", re.compile(r"(property|justice)-([0-9]{1,9})\.aag")
+PROPERTY = re.compile(r"(property|justice)-([0-9]{1,9})\.aag")
 NAME = re.compile(r"[A-Za-z0-9_][A-Za-z0-9_.-]*")
-NOTED = re.compile(r"# ([a-z0-9]{1,20}) answered after ([0-9]{1,9}\.[0-9]) s")
+ENGINE = re.compile(r"[a-z0-9]{1,20}")
 STEP = re.compile("no bad state at step ([0-9]+)")
 STEPS = re.compile("no bad state up to step ([0-9]+)")
 RUN = re.compile("b([0-9]+) at step [0-9]+")
@@ -36,7 +34,7 @@ SAFE, NONE = "no bad state at any step", "no fair run of j{}"
 # rounds.
 JUSTICE, ROUNDS, COUNT = "--justice", "--rounds", re.compile("[0-9]{1,9}")
 # The files of what is kept of assumptions, which are looked at anew.
-ASSUMED = ("possible.aag", endless.NAME)
+ASSUMED = ("possible.aag", ENDLESS)
 
 
 def taken(path: str, limit: int) -> Sealed:
@@ -53,9 +51,8 @@ def taken(path: str, limit: int) -> Sealed:
         return Sealed(file)
 
 
-@dataclass(frozen=True)
-class Line:
-    """A line of a script.
+class Line(NamedTuple):
+    """A line that is kept.
 
     That is the folder, the name of the file that it is about, what is to be shown, the words that
     ask about a justice property of that file, if it does, the other words, and which engine
@@ -70,16 +67,7 @@ class Line:
     seconds: float | None = None
 
 
-@dataclass
-class Script:
-    """The lines of a script, and the file of which each file that it is about was made."""
-
-    lines: list[Line] = field(default_factory=list)
-    made: dict[str, str] = field(default_factory=dict)
-
-
-@dataclass(frozen=True)
-class Found:
+class Found(NamedTuple):
     """What a line that was checked is about: a property, unless it is about all, and its run."""
 
     part: SeparateProperties | None
@@ -88,29 +76,35 @@ class Found:
     trace: Witness | None
 
 
-def script_of(folder: str, part: str, limit: int) -> Script:
-    """Returns what a part's script has."""
-    path = os.path.join(folder, part, SCRIPT)
-    text = taken(path, limit).data().decode("ascii", "replace")
-    script, shown = Script(), list[list[str]]()
-    noted: re.Match[str] | None = None
-    # One that runs all parts has lines of these alone.
-    for line in text.split("\n") if PART not in text else []:
-        if line.startswith(("shows ", "makes ")):
-            try:
-                kind, *words = shlex.split(line)
-            except ValueError:
-                raise Fault(f"{part or folder}: {SCRIPT} has a line that is no line of a shell") \
-                    from None
-            if kind == "makes" and words[1:2] in (["property"], ["live"]) and len(words) == 4:
-                script.made[words[0]] = words[2]
-            elif kind == "shows":
-                shown.append(words)
-        elif found := NOTED.fullmatch(line):
-            noted = found
-    engine, seconds = (noted[1], float(noted[2])) if noted else ("", None)
-    script.lines = [it for words in shown if (it := line_of(part, words, engine, seconds))]
-    return script
+def kept_in(folder: str, part: str, limit: int) -> tuple[list[Line], dict[str, str]]:
+    """Returns the lines of what is kept in a part of a folder, and of which file each file that
+    they are about was made. What has a table has lines of its parts alone."""
+    path = os.path.join(folder, part, EVIDENCE)
+    try:
+        kept = json.loads(taken(path, limit).data())
+        steps = [] if kept["table"] is not None else kept["steps"]
+        shown = [(step["shows"], step["by"]) for step in steps if "shows" in step]
+        made = {step["makes"]: step["by"] for step in steps if "makes" in step}
+        if not all(are_texts([name, *by]) for name, by in [*shown, *made.items()]):
+            raise ValueError
+    except (ValueError, LookupError, TypeError, RecursionError):
+        raise Fault(f"{part or folder}: {EVIDENCE} has another form") from None
+    noted = answered_by(kept)
+    lines = [it for line, by in shown if (it := line_of(part, line, by, *noted))]
+    return lines, {name: by[1] for name, by in made.items()
+                   if by[:1] in (["property"], ["live"]) and len(by) == 3}
+
+
+def are_texts(values: Iterable[object]) -> bool:
+    """Returns whether all of some values are texts."""
+    return all(isinstance(value, str) for value in values)
+
+
+def answered_by(kept: dict[str, Any]) -> tuple[str, float | None]:
+    """Returns which engine answered after how many seconds, if that is noted."""
+    engine, seconds = kept.get("engine"), kept.get("seconds")
+    is_noted = isinstance(engine, str) and ENGINE.fullmatch(engine)
+    return (str(engine), seconds) if is_noted and isinstance(seconds, (int, float)) else ("", None)
 
 
 def setting_of(words: Sequence[str], name: str) -> tuple[Sequence[str], Sequence[str]]:
@@ -120,10 +114,10 @@ def setting_of(words: Sequence[str], name: str) -> tuple[Sequence[str], Sequence
     return words[:count], words[count:]
 
 
-def line_of(part: str, words: Sequence[str], engine: str, seconds: float | None) -> Line | None:
-    """Returns the line of these words, if it is about a file."""
-    line, *others = words or [""]
-    setting, left = setting_of(others, JUSTICE)
+def line_of(part: str, line: str, by: Sequence[str], engine: str,
+            seconds: float | None) -> Line | None:
+    """Returns the line that these words show, if it is about a file."""
+    setting, left = setting_of(by, JUSTICE)
     rounds, left = setting_of(left, ROUNDS) if setting else ([], left)
     if len(left) < 2:
         return None
@@ -140,17 +134,17 @@ class Gathered:
         self.known: dict[str, list[SeparateProperties]] = {}
         self.found: list[Found] = []
 
-    def scripts(self) -> list[str]:
-        """Returns the folders in it that have a script, and itself, if it has one."""
+    def places(self) -> list[str]:
+        """Returns the folders in it in which something is kept, and itself, if that is so."""
         names = sorted(entry.name for entry in os.scandir(self.folder)
                        if entry.is_dir(follow_symlinks=False))
         return [part for part in ["", *names]
-                if os.path.isfile(os.path.join(self.folder, part, SCRIPT))]
+                if os.path.isfile(os.path.join(self.folder, part, EVIDENCE))]
 
     def part_of(self, name: str, folder: str, option: str) -> SeparateProperties:
         """Returns which of the files that are asked about now a file of this name is.
 
-        It is asked about by this option; the name is one in a folder's script."""
+        It is asked about by this option; the name is one that a folder has."""
         base = os.path.basename(name)
         if not NAME.fullmatch(base):
             raise Fault(f"{name} is no name of a file")
@@ -197,15 +191,14 @@ class Gathered:
             return None
 
     def lines(self) -> Iterator[tuple[Line, dict[str, str]]]:
-        """Yields the lines of all parts, with what each script makes."""
-        for part in self.scripts():
+        """Yields the lines of all parts, with what each part makes."""
+        for part in self.places():
             try:
-                script = script_of(self.folder, part, self.checker.limit)
+                lines, made = kept_in(self.folder, part, self.checker.limit)
             except Fault as why:
                 say(why)
                 continue
-            yield from ((line, script.made) for line in script.lines
-                        if not line.name.endswith(ASSUMED))
+            yield from ((line, made) for line in lines if not line.name.endswith(ASSUMED))
 
     def take(self, jobs: int) -> None:
         """Has all lines checked, several at once, and puts what follows into the answers."""
@@ -218,7 +211,7 @@ class Gathered:
                                   and it.number in (None, answer.number)])
 
     def keep(self, folder: EvidenceFolder) -> None:
-        """Has the script of the whole folder show what was checked, by no line of another."""
+        """Has the whole folder show what was checked, by no line of another."""
         for found in self.found:
             assert found.part
             line, name = found.line, found.part.source.name
@@ -229,10 +222,10 @@ class Gathered:
                 folder.makes(name, source.asked, source.command, found.part.source.name,
                              str(found.number))
             words = [self.placed(line.part, word) for word in words]
-            folder.add("shows", line.line, *line.setting, command, name, *words)
+            folder.add(shows=line.line, by=[*line.setting, command, name, *words])
 
     def placed(self, part: str, word: str) -> str:
-        """Returns a word of a part's script as it is called from the whole folder."""
+        """Returns a word of a part as it is called from the whole folder."""
         is_file = NAME.fullmatch(word) and os.path.lexists(os.path.join(self.folder, part, word))
         return os.path.join(part, word) if is_file else word
 

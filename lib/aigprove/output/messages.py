@@ -3,7 +3,6 @@ import contextlib
 import re
 import signal
 import sys
-import traceback
 from collections.abc import Iterable
 
 from aigprove.circuits.aiger import Fault
@@ -80,4 +79,7 @@ def report(error: BaseException, is_verbose: bool, engine: str = "") -> None:
         return
     say(f"internal error: {type(error).__name__}: {error}")
     if is_verbose:
+        # It takes a while to be imported.
+        import traceback
+
         tell("".join(traceback.format_exception(error)), end="")

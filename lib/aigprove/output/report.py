@@ -1,13 +1,17 @@
 """What became of each property, and how that is printed and written for other programs."""
+from __future__ import annotations
+
 import dataclasses
 import json
-import xml.etree.ElementTree as xml
-from typing import Any
+from typing import TYPE_CHECKING, Any
 
 from aigprove import VERSION
 from aigprove.circuits.witness import Witness
 from aigprove.output.messages import escaped
 from aigprove.output.signals import word
+
+if TYPE_CHECKING:
+    import xml.etree.ElementTree as xml
 
 # What kinds of property there are, by the letter of their numbers, and how their answers are
 # spelled: none at any step, one at a step, and neither.
@@ -161,6 +165,8 @@ class Report:
 
     def junit(self) -> str:
         """Returns its text as JUnit's XML: what isn't decided, or is empty, is skipped."""
+        import xml.etree.ElementTree as xml
+
         suite = xml.Element("testsuite", name=escaped(self.path), time=f"{self.seconds:.3f}",
                             errors="0")
         kinds = [self.put_case(suite, answer) for answer in self.answers]
@@ -176,6 +182,8 @@ class Report:
         """Puts an answer's case into the suite.
 
         Returns which kind of entry says that it didn't pass, if one does."""
+        import xml.etree.ElementTree as xml
+
         name = escaped(" ".join(filter(None, [f"{answer.letter}{answer.number}", answer.name])))
         case = xml.SubElement(suite, "testcase", classname=escaped(self.path), name=name,
                               time=f"{answer.seconds or 0:.3f}")

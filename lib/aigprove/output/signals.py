@@ -7,7 +7,6 @@ A name is printed as it is where it is a plain word, and else as a JSON string, 
 -."""
 import collections
 import itertools
-import json
 import re
 from collections.abc import Iterable, Iterator, Mapping, Sequence
 
@@ -25,7 +24,15 @@ PLAIN = re.compile(r"(?![ilb][0-9]+(:|$))[!#-<>-\[\]-~]+")
 
 def word(name: str) -> str:
     """Returns a name as one word, which is no place."""
-    return name if PLAIN.fullmatch(name) else json.dumps(name)
+    return name if PLAIN.fullmatch(name) else quoted(name)
+
+
+def quoted(name: str) -> str:
+    """Returns a name as a JSON string."""
+    # Few names are.
+    import json
+
+    return json.dumps(name)
 
 
 def number(bits: Sequence[str]) -> str:
@@ -69,7 +76,7 @@ class Signals:
         name = self.names.get(place)
         if name is None:
             return place
-        return word(name) if self.times[name] == 1 else f"{place}:{json.dumps(name)}"
+        return word(name) if self.times[name] == 1 else f"{place}:{quoted(name)}"
 
     def place(self, letter: str, position: int) -> str:
         """Returns how an output or a bad state property is printed."""

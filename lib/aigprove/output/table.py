@@ -10,24 +10,22 @@ from collections.abc import Callable, Iterable, Sequence
 from aigprove.circuits.aiger import Circuit, Fault
 from aigprove.circuits.witness import Witness
 from aigprove.designs.front_ends import COVER, LIVE
-from aigprove.engines.answers import FAILED, OPEN, SAFE, UNSAFE
+from aigprove.engines.job import FAILED, OPEN, SAFE, UNSAFE
 from aigprove.engines.portfolio import TICK
 from aigprove.engines.separate import SeparateProperties
 from aigprove.engines.shared import SharedProperties
 from aigprove.options.options import Options
 from aigprove.output import commands
-from aigprove.output.evidence import ABOVE, Evidence
-from aigprove.output.folders import EvidenceFolder
+from aigprove.output.evidence import ABOVE, Evidence, EvidenceFolder
 from aigprove.output.gather import Gathered
 from aigprove.output.messages import say, show_progress
 from aigprove.output.report import Report
 from aigprove.output.signals import Signals
 from aigprove.processes.files import write
 from aigprove.questions.assumptions import SECONDS, Assumptions
-from aigprove.questions.bad_states import BadStates, Covers
+from aigprove.questions.bad_states import BadStates, Covers, FileAbove
 from aigprove.questions.checker import Checker, header_of
 from aigprove.questions.justice import Justices, lives
-from aigprove.questions.properties import FileAbove
 from aigprove.questions.solver import Solver
 from aigprove.questions.target import Target
 
@@ -52,7 +50,8 @@ class Table:
         self.sources = self.all_sources()
         self.lines = [] if options.quiet else self.heading()
         self.is_there = bool(options.keep) and os.path.lexists(options.keep or "")
-        self.folder = EvidenceFolder(options.keep, options.limit) if options.keep else None
+        self.folder = (EvidenceFolder(options.keep, checker, options.limit)
+                       if options.keep else None)
         for source in self.sources if self.folder else []:
             if self.folder:
                 source.keep(self.folder)
@@ -134,6 +133,7 @@ class Table:
             finally:
                 for part in parts:
                     part.stop()
+                self.checker.task.scheduler.bury()
                 show_progress()
         for future in futures:
             future.result()
@@ -146,7 +146,7 @@ class Table:
             return
         found = self.assumptions()
         if self.folder:
-            evidence = Evidence(self.folder.path(self.folder.new("assumptions")),
+            evidence = Evidence(self.folder.path(self.folder.new("assumptions")), self.checker,
                                 self.options.limit)
             found.keep(evidence)
             evidence.end()

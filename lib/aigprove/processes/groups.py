@@ -1,29 +1,102 @@
-"""Programs that run, each in a group of processes that is stopped, continued and ended whole."""
+"""Programs that run, each in a group of processes that is stopped, continued and ended whole; what
+ends them if aigprove is killed; and what they leave behind."""
 from __future__ import annotations
 
 import contextlib
 import os
 import resource
+import shutil
 import signal
 import subprocess
 import sys
+import threading
 import time
-from collections.abc import Iterator, Sequence
-from typing import TYPE_CHECKING, Any, Protocol
+from collections.abc import Callable, Collection, Iterator, Sequence
+from typing import TYPE_CHECKING, Any, Generic, Protocol, TypeVar
 
-from aigprove.processes.sealed import Sealed, Word
+from aigprove.processes.files import Sealed, Word
 
 if TYPE_CHECKING:
-    from aigprove.processes.folder import Folder
+    from aigprove.processes.files import Folder
     from aigprove.processes.fork_server import ForkServer
     from aigprove.processes.scheduler import Task
 
+T = TypeVar("T")
+SUBREAPER = 36
 # How many bytes a file has whose check is told of while it is read.
 LONG = 1 << 22
 # What Python runs, with the module of this package and the folder that the package is in.
 MODULE = "import sys; sys.path.insert(0, sys.argv[1]); " \
     "from aigprove.equality import {0}; {0}.main(*sys.argv[2:])"
 PACKAGE = os.path.dirname(os.path.dirname(os.path.dirname(os.path.realpath(__file__))))
+
+
+class BackgroundCall(threading.Thread, Generic[T]):
+    """A call in another thread. (Pools of threads take longer to be imported.)"""
+
+    def __init__(self, call: Callable[..., T], *arguments: object) -> None:
+        super().__init__()
+        self.call, self.arguments = call, arguments
+        self.given: list[T] = []
+        self.error: BaseException | None = None
+        self.start()
+
+    def run(self) -> None:
+        try:
+            self.given.append(self.call(*self.arguments))
+        except BaseException as error:
+            self.error = error
+
+    def result(self) -> T:
+        """Waits for the call's end, and returns what it returns, or raises what it raises."""
+        self.join()
+        if self.error:
+            raise self.error
+        return self.given[0]
+
+
+def adopt() -> bool:
+    """Makes this process the parent of all that its programs leave behind, so that `bury` finds it.
+
+    Returns whether it could."""
+    # Only one process of ours does that.
+    import ctypes
+
+    return bool(ctypes.CDLL(None).prctl(SUBREAPER, 1, 0, 0, 0) == 0)
+
+
+def children() -> Iterator[int]:
+    """Yields the processes whose parent is this one: each of its threads may have some."""
+    for task in os.listdir("/proc/self/task"):
+        with contextlib.suppress(OSError), open(f"/proc/self/task/{task}/children") as file:
+            yield from map(int, file.read().split())
+
+
+def end(process: int) -> None:
+    """Ends a process, if this one is its parent."""
+    # A thread that waits for it may see its end first.
+    with contextlib.suppress(ProcessLookupError, ChildProcessError):
+        if os.waitpid(process, os.WNOHANG)[0] == 0:
+            os.kill(process, signal.SIGKILL)
+            os.waitpid(process, 0)
+
+
+def bury(kept: Collection[int] = ()) -> None:
+    """Ends all processes that this one is the parent of, but some, and then what these left."""
+    while left := [process for process in children() if process not in kept]:
+        for process in left:
+            end(process)
+
+
+def remove(path: str) -> None:
+    """Removes a folder, however deep it is and whatever its rights."""
+    # It gives up if a folder is too deep, or has no rights.
+    with contextlib.suppress(RecursionError):
+        shutil.rmtree(path, ignore_errors=True)
+    for words in [["rm", "-rf"], ["chmod", "-R", "u+rwx"], ["rm", "-rf"]]:
+        if os.path.lexists(path):
+            subprocess.run([*words, "--", path], stdin=subprocess.DEVNULL,
+                           stdout=subprocess.DEVNULL, stderr=subprocess.DEVNULL)
 
 
 class Process(Protocol):
@@ -109,7 +182,48 @@ class Group:
         """Ends all its processes."""
         self.signal(signal.SIGKILL)
 
+    def wait(self) -> None:
+        """Waits until the program has ended, whoever takes its status."""
+        with contextlib.suppress(ChildProcessError):
+            os.waitid(os.P_PID, self.process.pid, os.WEXITED | os.WNOWAIT)
+
     def limit_memory(self, most: int) -> None:
         """Lets it, and each process that it starts, have so many bytes of memory."""
         with contextlib.suppress(OSError):
             resource.prlimit(self.process.pid, resource.RLIMIT_AS, (most, most))
+
+
+class Keeper:
+    """A process that ends the groups that run if this process is killed and can't do that itself.
+
+    It is forked before there are threads."""
+
+    def __init__(self) -> None:
+        listening, self.telling = os.pipe()
+        self.process = os.fork()
+        if self.process == 0:
+            # Whatever fails here, the other process goes on alone.
+            try:
+                os.close(self.telling)
+                os.setsid()
+                for stream in range(3):
+                    os.dup2(os.open(os.devnull, os.O_RDWR), stream)
+                end_left(listening)
+            finally:
+                os._exit(0)
+        os.close(listening)
+
+    def tell(self, number: int) -> None:
+        """Notes that a group began, by its number, or that it ended, by its negative."""
+        with contextlib.suppress(BrokenPipeError):
+            os.write(self.telling, b"%d\n" % number)
+
+
+def end_left(listening: int) -> None:
+    """Ends the groups that began and didn't end, once nobody can tell of any more."""
+    groups: set[int] = set()
+    with open(listening, "rb") as lines:
+        for number in map(int, lines):
+            groups = groups | {number} if number > 0 else groups - {-number}
+    for group in groups:
+        signal_group(group, signal.SIGKILL)

@@ -8,23 +8,20 @@ import tempfile
 import threading
 import time
 from collections.abc import Callable, Collection, Iterator
-from typing import Any
+from typing import TYPE_CHECKING, Any
 
 from aigprove.circuits.aiger import Fault
 from aigprove.output.messages import plain, unnamed
-from aigprove.processes.folder import Folder
-from aigprove.processes.fork_server import ForkServer
-from aigprove.processes.groups import Group, Words
-from aigprove.processes.keeper import Keeper
-from aigprove.processes.sealed import Sealed
+from aigprove.processes.files import Folder, Sealed
+from aigprove.processes.groups import Group, Keeper, Words, bury
+
+if TYPE_CHECKING:
+    from aigprove.processes.fork_server import ForkServer
 
 # Seconds that an engine may have run longer than another that waits.
 TURN = 0.25
 # Seconds for which an engine's answer is checked before others go on.
 ALONE = 1
-# Engines that may run longer than others, by how many times: most designs are decided by the
-# first, most pairs of files by the others.
-SHARES = {"pdr": 2, "scorr": 8, "registers": 8}
 # An engine that showed a step may run half as long as others once it showed none for so many
 # seconds of its own.
 LATELY, SLOWED = 2, 2
@@ -37,8 +34,10 @@ class Stopped(Exception):
 class Task:
     """The work of one engine, or of the main thread, on a question: its programs share turns."""
 
-    def __init__(self, scope: Scope, engine: str) -> None:
+    def __init__(self, scope: Scope, engine: str, share: int) -> None:
         self.scope, self.engine, self.scheduler = scope, engine, scope.scheduler
+        # How many times as long as others it may run.
+        self.share = share
         # For how long its programs ran, and for how long they had when it last got further.
         self.used = 0.0
         self.further: float | None = None
@@ -78,7 +77,7 @@ class Task:
         if self.is_answering:
             return 0
         is_behind = self.further is not None and self.used - self.further > LATELY
-        return self.used * (SLOWED if is_behind else 1) / SHARES.get(self.engine, 1)
+        return self.used * (SLOWED if is_behind else 1) / self.share
 
     def rests(self) -> bool:
         """Returns whether its programs wait while another engine's answer is checked."""
@@ -109,25 +108,28 @@ class Scope:
         self.scheduler, self.is_over = scheduler, False
         self.only: Task | None = None
 
-    def task(self, engine: str) -> Task:
+    def task(self, engine: str, share: int = 1) -> Task:
         """Returns a new task."""
-        return Task(self, engine)
+        return Task(self, engine, share)
 
     def is_stopped(self) -> bool:
         """Returns whether none of its tasks starts anything any more."""
         return self.is_over or self.scheduler.is_stopped
 
     def end_others(self, task: Task) -> None:
-        """Ends the programs of all tasks but this one, which start nothing any more."""
+        """Ends the programs of all tasks but this one, which start nothing any more.
+
+        They are gone then, and what they left running is, too."""
         with self.scheduler.lock:
             self.only = task
-            self.scheduler.kill(lambda group: group.task.scope is self and group.task is not task)
+        self.scheduler.end(lambda group: group.task.scope is self and group.task is not task)
+        self.scheduler.bury()
 
     def stop(self) -> None:
-        """Ends its programs; none is started from now on."""
+        """Ends its programs, which are gone then; none is started from now on."""
         with self.scheduler.lock:
             self.is_over = True
-            self.scheduler.kill(lambda group: group.task.scope is self)
+        self.scheduler.end(lambda group: group.task.scope is self)
 
 
 class Scheduler:
@@ -262,22 +264,26 @@ class Scheduler:
             if group.folder and group.folder.is_full():
                 group.kill()
 
-    def kill(self, is_wanted: Callable[[Group], bool]) -> None:
-        """Ends the programs for which the function `is_wanted` returns true."""
-        for group in filter(is_wanted, self.running + self.waiting):
-            group.kill()
+    def end(self, is_wanted: Callable[[Group], bool]) -> None:
+        """Ends the programs for which the function `is_wanted` returns true, and waits for that."""
+        with self.lock:
+            groups = list(filter(is_wanted, self.running + self.waiting))
+            for group in groups:
+                group.kill()
+        for group in groups:
+            group.wait()
+
+    def bury(self) -> None:
+        """Ends the processes that programs left running."""
+        with self.lock:
+            own = [self.keeper.process, *([self.server.process] if self.server else [])]
+            bury([*own, *(group.process.pid for group in self.running + self.waiting)])
 
     def stop(self) -> None:
         """Ends all programs; none is started from now on."""
         with self.lock:
             self.is_stopped = True
-            self.kill(lambda _: True)
-
-    def processes(self) -> list[int]:
-        """Returns the processes that are known to be there."""
-        with self.lock:
-            own = [self.keeper.process, *([self.server.process] if self.server else [])]
-            return [group.process.pid for group in self.running + self.waiting] + own
+        self.end(lambda _: True)
 
 
 def weight(group: Group) -> float:

@@ -1,7 +1,7 @@
-"""One file, whose bad states are asked about, and the covers of a design."""
+"""One file, whose bad states are asked about, the covers of a design, and one property alone, of
+which aigedit makes a file."""
 from __future__ import annotations
 
-import dataclasses
 import re
 from collections.abc import Iterable, Iterator, Sequence
 from typing import TYPE_CHECKING
@@ -10,10 +10,8 @@ from aigprove.circuits.aiger import Circuit, Fault, Header, Lines, decoded
 from aigprove.circuits.witness import Witness
 from aigprove.designs.front_ends import BLIF, COVER, LIVE
 from aigprove.options.options import DesignOptions, Options
-from aigprove.output.evidence import Evidence
-from aigprove.output.report import PropertyAnswer
 from aigprove.output.signals import Signals, word
-from aigprove.processes.sealed import Sealed
+from aigprove.processes.files import Sealed
 from aigprove.questions.checker import Checker
 from aigprove.questions.input_file import InputFile
 from aigprove.questions.target import Target
@@ -21,6 +19,9 @@ from aigprove.questions.target import Target
 if TYPE_CHECKING:
     from aigprove.designs.replay import Replay
     from aigprove.designs.verilog import Design
+    from aigprove.output.evidence import Evidence
+    from aigprove.output.report import PropertyAnswer
+    from aigprove.questions.justice import Justices
 
 # How many registers that are uninitialised are named.
 NAMED_OPEN = 8
@@ -64,6 +65,8 @@ class BadStates(Target):
         """Returns its properties, which have no answers yet.
 
         Those of a design have the names and the places of its assertions."""
+        from aigprove.output.report import PropertyAnswer
+
         circuit, design = self.circuit(), self.given.design
         if design and design.assertions:
             named = design.named()
@@ -150,7 +153,7 @@ def of_kind(kind: str, options: DesignOptions, first: InputFile) -> DesignOption
 
     The first question printed what isn't asked about."""
     assert first.design
-    return dataclasses.replace(options, is_quiet=True, kind=kind, top=first.design.top)
+    return options._replace(is_quiet=True, kind=kind, top=first.design.top)
 
 
 def is_old(line: bytes) -> bool:
@@ -162,3 +165,66 @@ def is_old(line: bytes) -> bool:
     except Fault:
         return False
     return header.is_old and header.outputs > 0
+
+
+class Property(Target):
+    """A property of a file, by its number there.
+
+    The file that aigedit makes has it as its bad literal 0, and the same inputs and latches, so
+    that a run of one is a run of the other."""
+
+    # By which command of aigedit the file is made.
+    command = "property"
+
+    def __init__(self, whole: BadStates, number: int, above: str = "") -> None:
+        # In which folder the whole file is kept, if it isn't kept with this one.
+        self.whole, self.number, self.above = whole, number, above
+        self.path, self.name = whole.path, f"property-{number}.aag"
+        self.stem = f"{whole.stems[1]}-{number}"
+
+    def make(self) -> Sealed:
+        return self.whole.given.checker.made(self.command, self.whole.asked, self.number)
+
+    def circuit(self) -> Circuit:
+        return self.whole.circuit()
+
+    def warnings(self) -> Iterator[str]:
+        return self.whole.warnings()
+
+    def places(self, circuit: Circuit) -> list[str]:
+        return [f"b{self.number}"]
+
+    def of_file(self, trace: Witness) -> Witness:
+        return trace.showing(self.number)
+
+    def about(self) -> Iterator[str]:
+        return self.whole.about()
+
+    def found(self, signals: Signals, traces: Sequence[Witness]) -> str:
+        return self.whole.found(signals, list(map(self.of_file, traces)))
+
+    def lines(self, signals: Signals, circuit: Circuit, trace: Witness) -> Iterator[str]:
+        return self.whole.lines(signals, circuit, self.of_file(trace))
+
+    def dump(self, circuit: Circuit, trace: Witness) -> Iterable[str]:
+        return self.whole.dump(circuit, self.of_file(trace))
+
+    def keep(self, evidence: Evidence) -> None:
+        if not self.above:
+            self.whole.keep(evidence)
+        words = [self.command, self.above + self.whole.name, str(self.number)]
+        evidence.makes(self.name, self.asked, *words)
+
+
+class FileAbove(Target):
+    """A file that stands in a folder above what is kept of it."""
+
+    def __init__(self, whole: BadStates | Justices, folder: str) -> None:
+        self.whole, self.path, self.name = whole, whole.path, folder + whole.name
+        self.stem, self.asked = whole.stems[0], whole.asked
+
+    def circuit(self) -> Circuit:
+        return self.whole.circuit()
+
+    def keep(self, evidence: Evidence) -> None:
+        """Keeps nothing: the file is kept once, above."""

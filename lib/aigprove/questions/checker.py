@@ -4,17 +4,15 @@ Every statement about a circuit that aigprove prints is a line that aigcheck pri
 read-only copy of the file. Nothing else in the package says what a machine does."""
 from __future__ import annotations
 
-import dataclasses
 import re
 import tempfile
 from collections.abc import Mapping, Sequence
-from dataclasses import dataclass
-from typing import IO, Protocol
+from typing import IO, NamedTuple, Protocol
 
 from aigprove.circuits.aiger import LIMIT, Circuit, Fault, Header, Lines
 from aigprove.output.messages import ending
+from aigprove.processes.files import Sealed, Word
 from aigprove.processes.scheduler import Task
-from aigprove.processes.sealed import Sealed, Word
 
 # How the first line of what aigcheck says ends where a proof doesn't follow.
 STEP = "proof step does not follow"
@@ -31,8 +29,7 @@ def header_of(file: Sealed) -> Header:
     return Header(Lines(file.line(), "FILE"))
 
 
-@dataclass(frozen=True)
-class Claim:
+class Claim(NamedTuple):
     """A line that aigcheck prints for these words, in which names stand for these files."""
 
     line: str
@@ -56,8 +53,7 @@ class Query(Protocol):
         """What stands behind the command and FILE."""
 
 
-@dataclass(frozen=True)
-class Question:
+class Question(NamedTuple):
     """Clauses that ask whether a bad state is reached.
 
     That is at step k (`query`), at a step up to k (`bounded`), or by a window of k + 2 steps from
@@ -77,8 +73,7 @@ class Question:
         return [self.k, *self.form]
 
 
-@dataclass(frozen=True)
-class Checker:
+class Checker(NamedTuple):
     """Our programs, which run for a task."""
 
     task: Task
@@ -105,7 +100,7 @@ class Checker:
 
     def of(self, task: Task) -> Checker:
         """Returns the same for another task."""
-        return dataclasses.replace(self, task=task)
+        return self._replace(task=task)
 
     def print(self, words: Sequence[Word], out: IO[bytes]) -> None:
         """Has a program print into a file; it has to end with status 0."""

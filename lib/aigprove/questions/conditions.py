@@ -3,22 +3,19 @@ implies the file's. Which of its inputs and latches stand for the file's its nam
 their order. What is asked about them is aigcheck's; names are told alone."""
 import re
 from collections.abc import Iterable, Sequence
-from dataclasses import dataclass
+from typing import NamedTuple
 
-from aigprove.circuits.aiger import Circuit
-from aigprove.circuits.gates import Gates
-from aigprove.processes.sealed import Sealed, Word
+from aigprove.circuits.aiger import Circuit, Gates
+from aigprove.circuits.certificates import STANDS
+from aigprove.processes.files import Sealed, Word
 from aigprove.questions.checker import Query, Question
 
 CONDITIONS = ["reset", "transition", "property", "base", "step"]
-# How a name begins that says for which literal of the file a leaf stands, a line of such a name,
-# and one that has a number.
-STANDS = b"= "
+# A line of a name that says for which literal of the file a leaf stands, and one that has a number.
 LINE, NAME = re.compile(rb"^[il][0-9]+ " + STANDS, re.M), re.compile(STANDS + rb"([0-9]+)")
 
 
-@dataclass(frozen=True)
-class Condition:
+class Condition(NamedTuple):
     """Clauses that ask whether a witness circuit breaks a condition."""
 
     witness: Sealed

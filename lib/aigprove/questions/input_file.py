@@ -1,4 +1,6 @@
 """Files as they were named: their bytes are read once, into memory that nobody can write."""
+from __future__ import annotations
+
 import tempfile
 from collections.abc import Iterator, Sequence
 from typing import TYPE_CHECKING
@@ -6,14 +8,13 @@ from typing import TYPE_CHECKING
 from aigprove.circuits.aiger import Circuit, Fault, Header, Lines, Symbols, decoded, encoded
 from aigprove.designs.front_ends import FRONTS, STANDARD_INPUT, VERILOG, File, kind_of
 from aigprove.options.options import DesignOptions
-from aigprove.output.evidence import Evidence
 from aigprove.output.messages import say
-from aigprove.processes.files import sealed
-from aigprove.processes.sealed import Sealed
+from aigprove.processes.files import Sealed, sealed
 from aigprove.questions.checker import Checker
 
 if TYPE_CHECKING:
     from aigprove.designs.verilog import Design
+    from aigprove.output.evidence import Evidence
 
 # Options that are for designs alone, or for those that certain front ends read.
 OF_DESIGNS: dict[str, list[str] | None] = {

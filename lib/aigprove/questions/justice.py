@@ -13,7 +13,7 @@ from aigprove.output import waves
 from aigprove.output.evidence import Evidence
 from aigprove.output.report import PropertyAnswer
 from aigprove.output.signals import Signals
-from aigprove.processes.sealed import Sealed
+from aigprove.processes.files import Sealed
 from aigprove.questions.bad_states import of_kind
 from aigprove.questions.checker import Checker, Claim, Question
 from aigprove.questions.input_file import InputFile, counted
@@ -52,6 +52,11 @@ class Justices(Target):
         return [PropertyAnswer(self.letter, i, decoded(names.get((self.letter, i), b"")))
                 for i in numbers]
 
+    def each(self) -> Iterator[Target]:
+        """Yields each of them, none of which is asked about alone."""
+        for number in range(self.given.header().justice):
+            yield Justice(self, number, is_alone=False)
+
 
 def lives(options: Options, above: str, checker: Checker, first: InputFile) -> Justices:
     """Returns the liveness assertions of a design of which something else was asked first.
@@ -59,6 +64,13 @@ def lives(options: Options, above: str, checker: Checker, first: InputFile) -> J
     What was read of the design is given."""
     design = of_kind(LIVE, options.design, first)
     return Justices(InputFile(options.files, design, above, checker, "lives", first.given))
+
+
+def given_justice(options: Options, above: str, checker: Checker) -> Target:
+    """Returns the justice property that a command line names."""
+    assert options.justice is not None
+    given = InputFile(options.files, options.design, above, checker)
+    return Justice(Justices(given), options.justice)
 
 
 class Justice(Target):

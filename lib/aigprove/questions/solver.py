@@ -3,39 +3,25 @@ from __future__ import annotations
 
 import os
 import re
-import subprocess
 from collections.abc import Callable, Sequence
 
 from aigprove.circuits.aiger import Fault
 from aigprove.output.messages import ending
-from aigprove.processes.folder import Folder
+from aigprove.processes.files import Folder, Sealed
 from aigprove.processes.groups import Words
 from aigprove.processes.scheduler import Task
-from aigprove.processes.sealed import Sealed
 from aigprove.questions.checker import Checker, Query
 
 # How clauses end that say last that variable 1 is true, which is false by their first.
 CONFLICT = b"\n1 0\n"
 NUMBER = re.compile("-?[0-9]{1,20}")
-# What cadical is told for a proof with hints. One about assumptions has none, and stands where
-# nothing takes a variable away.
-HINTED, ASSUMING = "--lrat=1", "--plain"
+# What cadical is told for a proof about assumptions, which has no hints, and stands where nothing
+# takes a variable away.
+ASSUMING = "--plain"
 
 
 class Undecided(Fault):
     """A solver ended without an answer."""
-
-
-def cadical() -> list[str]:
-    """Returns the words that call cadical for a proof in text, with hints if it knows them.
-
-    There are none if it isn't installed."""
-    try:
-        options = subprocess.run(["cadical", "--help"], stdin=subprocess.DEVNULL,
-                                 capture_output=True).stdout
-    except FileNotFoundError:
-        return []
-    return ["cadical", "-q", "--no-binary", *[HINTED] * (b"--lrat" in options)]
 
 
 def true_of(solution: Sealed) -> set[int]:

@@ -3,16 +3,18 @@ from __future__ import annotations
 
 import functools
 from collections.abc import Iterable, Iterator, Mapping, Sequence
+from typing import TYPE_CHECKING
 
 from aigprove.circuits import simulation
 from aigprove.circuits.aiger import Circuit, Header
 from aigprove.circuits.simulation import SIMULATED
 from aigprove.circuits.witness import Witness
-from aigprove.output import waves
-from aigprove.output.evidence import Evidence
-from aigprove.output.signals import Signals
-from aigprove.processes.sealed import Sealed
+from aigprove.processes.files import Sealed
 from aigprove.questions.checker import Checker, Claim, Question
+
+if TYPE_CHECKING:
+    from aigprove.output.evidence import Evidence
+    from aigprove.output.signals import Signals
 
 # By the command of a question: what aigcheck prints if that has no solution, and by which words.
 CLAIMS = {
@@ -160,6 +162,8 @@ class Target:
 
     def dump(self, circuit: Circuit, trace: Witness) -> Iterable[str]:
         """Returns the lines of a value change dump."""
+        from aigprove.output import waves
+
         return waves.dump(circuit, trace.start, trace.steps)
 
     def keep(self, evidence: Evidence) -> None:

@@ -1,0 +1,140 @@
+"""What a command line asks for: one question after the other, or a table."""
+import contextlib
+import os
+import signal
+import tempfile
+from collections.abc import Iterator, Sequence
+
+from aigprove.designs.front_ends import LIVE, TranslationTimeout
+from aigprove.engines.inquiry import Inquiry
+from aigprove.engines.job import FAILED, OPEN, SAFE, UNSAFE
+from aigprove.options.options import Options
+from aigprove.output.messages import say
+from aigprove.processes.groups import adopt, bury, remove
+from aigprove.processes.scheduler import Scheduler, Scope
+from aigprove.questions.bad_states import BadStates
+from aigprove.questions.checker import Checker
+from aigprove.questions.target import Target
+
+# What guesses what corresponds in two files, and what asks about that.
+GUESSING = ["guesses", "scorr", "merging"]
+SIGNALS = [signal.SIGTERM, signal.SIGHUP, signal.SIGINT]
+
+
+def targets(options: Options, above: str, checker: Checker) -> Iterator[Target]:
+    """Yields what a command line asks about.
+
+    Of a design those are its assertions, if it has some, and then each liveness assertion. What
+    only some questions need is imported for these."""
+    if options.justice is not None:
+        from aigprove.questions.justice import given_justice
+
+        yield given_justice(options, above, checker)
+        return
+    if options.equal:
+        from aigprove.equality.pair import Pair
+
+        yield Pair(options, above, checker)
+        return
+    source = BadStates(options, above, checker)
+    is_later = source.has_later(options.design.later & {LIVE})
+    if not is_later or source.given.design and source.given.design.assertions:
+        yield source if options.property is None else property_of(source, options.property)
+    if is_later:
+        from aigprove.questions.justice import lives
+
+        yield from lives(options, above, checker, source.given).each()
+
+
+def property_of(source: BadStates, number: int) -> Target:
+    """Returns one property of a file."""
+    from aigprove.questions.bad_states import Property
+
+    return Property(source, number)
+
+
+def asked(options: Options, above: str, checker: Checker) -> int:
+    """Asks one question after the other, up to the first that something reaches.
+
+    Returns the exit status of all together."""
+    inquiries: list[Inquiry] = []
+    statuses: list[int] = []
+    try:
+        for source in targets(options, above, checker):
+            own = options
+            if inquiries:
+                # A certificate is of what is asked first.
+                keep = os.path.join(options.keep, source.stem) if options.keep else None
+                own = options._replace(keep=keep, write_certificate=None)
+            scope = Scope(checker.task.scheduler)
+            inquiries.append(Inquiry(own, scope, checker, above, source))
+            statuses.append(inquiries[-1].run())
+            if statuses[-1] in (UNSAFE, FAILED) or options.aiger:
+                break
+            scope.stop()
+    except TranslationTimeout as why:
+        if not inquiries:
+            raise
+        # The assertions have their answer, and the time was over while yosys made the file of what
+        # is asked next.
+        say(why)
+        print("nothing was shown of liveness")
+        statuses.append(OPEN)
+    finally:
+        end_evidence(inquiries)
+    return next((it for it in (UNSAFE, FAILED, OPEN) if it in statuses), SAFE)
+
+
+def tabled(options: Options, above: str, checker: Checker) -> int:
+    """Asks about each property by itself, and returns the exit status of all together."""
+    # What only tables need takes a while to be imported.
+    from aigprove.output.table import Table
+
+    return Table(options, checker, above).run()
+
+
+def end_evidence(inquiries: Sequence[Inquiry]) -> None:
+    """Ends what was kept of questions: the folders of the others are in that of the first."""
+    kept = [(inquiry.evidence, inquiry.source) for inquiry in inquiries]
+    for evidence, source in kept[1:]:
+        if evidence and kept[0][0]:
+            evidence.end()
+            kept[0][0].part(source.stem)
+    if kept and kept[0][0]:
+        kept[0][0].end()
+
+
+@contextlib.contextmanager
+def undisturbed() -> Iterator[None]:
+    """Passes over signals for a little while, so that none leaves anything behind."""
+    before = {number: signal.signal(number, signal.SIG_IGN) for number in SIGNALS}
+    try:
+        yield
+    finally:
+        for number, handler in before.items():
+            signal.signal(number, handler)
+
+
+def answer(options: Options) -> int:
+    """Answers what a command line asks, and returns the exit status."""
+    # Processes are forked before there are threads.
+    scheduler = Scheduler(options.jobs, options.memory)
+    if adopt() and options.equal:
+        from aigprove.processes.fork_server import ForkServer
+
+        scheduler.server = ForkServer(GUESSING)
+    programs, task = options.programs, Scope(scheduler).task("main")
+    checker = Checker.begin(task, programs.aigtool, programs.aigedit, programs.aigcheck,
+                            options.limit)
+    above = tempfile.mkdtemp(prefix="aigprove-")
+    try:
+        return (tabled if options.each else asked)(options, above, checker)
+    except TranslationTimeout as why:
+        say(why)
+        print("2\n." if options.aiger else "nothing was shown")
+        return OPEN
+    finally:
+        with undisturbed():
+            scheduler.stop()
+            bury()
+            remove(above)

@@ -1,0 +1,290 @@
+"""The modules of a design: each x becomes a wire that nothing drives, before a pass of yosys may
+choose its value, or another for each reader; and what yosys would read in one way of several is
+refused."""
+import collections
+import itertools
+import re
+from collections.abc import Iterator, Mapping, Sequence
+from typing import Any, NamedTuple
+
+from aigprove.circuits.aiger import Fault
+from aigprove.designs.rtlil import Part, Signal, Statement, constant, modules_of, spelled
+
+# What an assertion, an assumption or a write that isn't enabled says, and whether it is enabled.
+UNREACHED, ENABLE = re.compile(r"\$[0-9]+\$(?:formal|memwr)\$\S+"), "_EN"
+PARALLEL = "\\parallel_case"
+# Cells that compare with x, or whose x are values of a memory.
+COMPARING, MEMORY = {"$eqx", "$nex"}, "$mem"
+# Statements of processes that may have values.
+VALUED = {"assign", "switch", "update"}
+INTERFACE, TOP, BOX = "\\is_interface", "\\top", "\\blackbox"
+# The attribute of a net that is joined with a signal in an instance.
+JOINED = "\\hierconn"
+# How yosys names what is in a task or function, or in a block without a name: the scope, its number
+# of the call or block, and the name there.
+CALL = re.compile(r"(?<=\\)([^\s\\]*?)\$func\$[^\s\\]*?:[0-9]+\$([0-9]+)(?=\.([^\s.[]+))")
+BLOCK = re.compile(r"((?<=\\)[^\s\\]*?\.|(?<!\S))\$unnamed_block\$([0-9]+)(?=\.([^\s.[]+))")
+UNNAMED = "unnamed_block"
+# The path of a net, with spaces between its parts.
+PATH = re.compile(r'[^\s"\\]+( [^\s"\\]+)+')
+
+
+def opened(design: Statement) -> None:
+    """Frees each x of a design. What isn't enabled has the value 0, and not x; and the first of
+    several items that fit counts, though the design says that only one does."""
+    for module in design.of("module"):
+        for it in module.all():
+            it.attributes.pop(PARALLEL, None)
+            settle(it)
+        free(module)
+
+
+def settle(block: Statement) -> None:
+    """Gives what isn't enabled in a case the value 0."""
+    for it, *behind in zip(block.body, *(block.body[i:] + [block] * i for i in (1, 2))):
+        if it.kind == "assign" and UNREACHED.match(it.text) and any(map(is_disabled, behind)):
+            target, source = it.signals()
+            bits = constant(source)
+            if bits and not bits.strip("x"):
+                it.put([target, [Part("", "0" * len(bits))]])
+
+
+def is_disabled(statement: Statement) -> bool:
+    """Returns whether a statement says that something isn't enabled."""
+    if statement.kind != "assign":
+        return False
+    target, source = statement.signals()
+    bits = constant(source)
+    return ENABLE in spelled(target) and bool(bits) and not bits.strip("0")
+
+
+def valued(module: Statement) -> Iterator[Statement]:
+    """Yields the statements of a module whose x are values: those of memories, of initial values
+    and what is compared with x are none."""
+    for it in module.body:
+        if it.kind == "connect":
+            yield it
+        elif it.kind == "cell" and it.type not in COMPARING and not it.type.startswith(MEMORY):
+            yield from it.of("connect")
+        elif it.kind == "process" and not any(sync.text == "init" for sync in it.of("sync")):
+            yield from (own for own in it.all() if own.kind in VALUED)
+
+
+def is_open(part: Part) -> bool:
+    """Returns whether a part of a signal has bits that are x, and none that is z."""
+    return "x" in part.bits and "z" not in part.bits
+
+
+def free(module: Statement) -> None:
+    """Gives a module a wire that nothing drives for each run of bits that are x."""
+    wires: list[Statement] = []
+
+    def freed(part: Part) -> Iterator[Part]:
+        for is_x, run in itertools.groupby(part.bits, lambda bit: bit == "x"):
+            bits = "".join(run)
+            if is_x:
+                wires.append(Statement("wire", f"width {len(bits)} $free${len(wires) + 1}"))
+            yield Part(wires[-1].name) if is_x else Part("", bits)
+
+    for it in valued(module):
+        if "x" in it.text:
+            signals = it.signals()
+            made: list[Signal] = [[own for part in signal
+                                   for own in (freed(part) if is_open(part) else [part])]
+                                  for signal in signals]
+            if made != signals:
+                it.put(made)
+    module.body[:0] = wires
+
+
+class Cell(NamedTuple):
+    """A cell, whose names begin with a sign; a module has no type."""
+
+    module: str
+    type: str | None
+    name: str
+    place: str
+
+    @property
+    def label(self) -> str:
+        """The module's name, and its own if the design gives one."""
+        return self.module[1:] + (f".{self.name[1:]}" if self.name.startswith("\\") else "")
+
+
+def cells_of(design: Statement) -> Iterator[Cell]:
+    """Yields all modules of a design, each before its cells."""
+    for name, module in modules_of(design).items():
+        yield Cell(name, None, name, module.source)
+        for cell in module.of("cell"):
+            yield Cell(name, cell.type, cell.name, cell.source)
+
+
+def types_of(design: Statement) -> set[str]:
+    """Returns the types of all cells of a design."""
+    return {cell.type for module in design.of("module") for cell in module.of("cell")}
+
+
+def dots_in(name: str) -> Iterator[int]:
+    """Yields the places of the points in a name."""
+    return (i for i, sign in enumerate(name) if sign == ".")
+
+
+def check_names(modules: Mapping[str, Statement], passed: str = "") -> None:
+    """Refuses a name with points that is a path to something else, too: yosys takes one for the
+    other. Nets with an attribute of this name are passed over."""
+    for name, module in modules.items():
+        dotted = [own for it in module.of("wire", "memory")
+                  if passed not in it.attributes
+                  and (own := it.name).startswith("\\") and "." in own[2:]]
+        types = {it.name: it.type for it in module.of("cell")} if dotted else {}
+        for own in dotted:
+            for end in dots_in(own):
+                other = modules.get(types.get(own[:end], ""))
+                # What an interface has is declared by paths.
+                is_path = other and INTERFACE not in other.attributes
+                if is_path and other and f"\\{own[end + 1:]}" in begins_of(other):
+                    raise Fault(f"{base_of(name)} has a net of the name {own[1:]}, and an instance "
+                                f"{own[1:end]} with {own[end + 1:]}: rename one of them")
+
+
+def begins_of(module: Statement) -> set[str]:
+    """Returns the names of what a module has, and what stands before a point in one."""
+    names = {it.name for it in module.of("wire", "memory", "cell")}
+    return names | {name[:end] for name in names for end in dots_in(name)}
+
+
+def check_constants(modules: Mapping[str, Statement]) -> None:
+    """Refuses nets that are given different constants, as by initial blocks where nothing else
+    writes them: yosys takes one of these."""
+    for name, module in modules.items():
+        given, values = list(constants_in(module)), collections.defaultdict(set)
+        widths = {it.name: width_of(it) for it in module.of("wire")} if given else {}
+        for target, source in given:
+            for i, bit in enumerate(bits_in(target, widths)):
+                values[bit].add(source[i:i + 1] or source)
+        for net in dict.fromkeys(net for (net, _), own in values.items() if len(own) > 1):
+            # What only initial blocks write and nothing reads may be the variable of loops.
+            uses = sum(it.words().count(net) for it in module.all())
+            if uses > 1 + sum(net in {part.name for part in target} for target, _ in given):
+                raise Fault(f"{base_of(name)}: {net[1:]} has several drivers, or several initial "
+                            "values")
+
+
+def width_of(wire: Statement) -> int:
+    """Returns how many bits a net has."""
+    words = wire.words()
+    return int(words[words.index("width") + 1]) if "width" in words[:-1] else 1
+
+
+def constants_in(module: Statement) -> Iterator[tuple[Signal, str]]:
+    """Yields what a module gives to nets once: pairs of a target and a constant, its lowest bit
+    first, or another text if it is none."""
+    for it in module.of("connect"):
+        target, source = it.signals()
+        if bits := known_bits(source):
+            yield target, bits[::-1]
+    for process in module.of("process"):
+        known = {} if process.of("switch") else {
+            str(target[0]): known_bits(source)
+            for target, source in (it.signals() for it in process.of("assign")) if len(target) == 1}
+        syncs = process.of("sync")
+        for sync, other in zip(syncs, syncs[1:]):
+            if (sync.text, other.text) == ("always", "init"):
+                for target, source in (it.signals() for it in sync.of("update")):
+                    text = " ".join(map(str, source))
+                    yield target, (known_bits(source) or known.get(text) or text)[::-1]
+
+
+def known_bits(signal: Signal) -> str:
+    """Returns the bits of a signal that is a constant of 0 and 1; else none."""
+    bits = constant(signal)
+    return bits if not bits.strip("01") else ""
+
+
+def bits_in(target: Signal, widths: Mapping[str, int]) -> Iterator[tuple[str, int]]:
+    """Yields the bits of the nets in a signal, from the lowest on: pairs of a name and a place."""
+    for part in reversed(target):
+        low, high = part.low, part.high
+        if low is None or high is None:
+            low, high = 0, widths.get(part.name, 1) - 1
+        yield from ((part.name, i) for i in range(low, high + 1))
+
+
+def base_of(name: str) -> str:
+    """Returns the name that a module has in the design: that of one with parameters stands behind
+    the second sign."""
+    return name.split("\\")[1]
+
+
+def source_of(name: str) -> str:
+    """Returns the name that a module has in the text: that of one with interfaces has theirs behind
+    it."""
+    return base_of(name).partition("$interfaces$")[0]
+
+
+def roots_of(cells: Sequence[Cell]) -> list[str]:
+    """Returns the names of the modules that no other has, in order."""
+    types = {cell.type for cell in cells}
+    return [cell.module[1:] for cell in cells if cell.type is None and cell.module not in types]
+
+
+def reached(cells: Sequence[Cell], root: str) -> set[str]:
+    """Returns the names of a module and of all below it."""
+    found, left = set(), [root]
+    while left:
+        found.add(left.pop())
+        types = {cell.type for cell in cells if cell.type and cell.module[1:] in found}
+        left += [name[1:] for name in types if name[0] == "\\" and name[1:] not in found]
+    return found
+
+
+def item_of_x(design: Statement) -> str | None:
+    """Returns the place of a case with an item that is x or z, if there is one."""
+    for switch in (it for it in design.all() if it.kind == "switch"):
+        items = [part for case in switch.of("case") for signal in case.signals() for part in signal]
+        if any("x" in part.bits or "z" in part.bits for part in items):
+            return switch.source
+    return None
+
+
+def renamed(module: Statement) -> None:
+    """Gives names that rest on tasks, functions and blocks alone to what is in these: by yosys's
+    own no register would have a partner in another file."""
+    for pattern, behind in (CALL, ""), (BLOCK, UNNAMED):
+        statements = list(module.all())
+        if any(pattern.search(it.text) for it in statements):
+            names = renaming({word for it in statements for word in it.words()}, pattern, behind)
+            for it in statements if names else []:
+                it.text = " ".join(names.get(word, word) for word in it.words())
+
+
+def renaming(words: set[str], pattern: re.Pattern[str], behind: str) -> dict[str, str]:
+    """Returns new names for such words: the scope, what is to stand behind it, and the inner name;
+    of several with one name each has its own number, from 0. Where another word is such a name
+    itself there is none."""
+    numbers = collections.defaultdict[tuple[str, str], set[int]](set)
+    found = {word: pattern.findall(word) for word in words if "$" in word and pattern.search(word)}
+    for scope, number, inner in (it for own in found.values() for it in own):
+        numbers[scope, inner].add(int(number))
+
+    def named(match: re.Match[str]) -> str:
+        own = sorted(numbers[match[1], match[3]])
+        index = f"[{own.index(int(match[2]))}]" if len(own) > 1 else ""
+        return ("" if match[1] else "\\") + match[1] + behind + index
+
+    names = {word: pattern.sub(named, word) for word in found}
+    return names if len(words) == len({names.get(word, word) for word in words}) else {}
+
+
+def paths_of(nets: Mapping[str, Any]) -> dict[str, str]:
+    """Returns the paths of the nets of a flat module that are below the top, by the names that they
+    have once those in tasks are named."""
+    module, paths = Statement("module"), {}
+    module.body = [Statement("wire", f"\\{name}") for name in nets]
+    renamed(module)
+    for (name, net), line in zip(nets.items(), module.body):
+        path, own = net["attributes"].get("hdlname", ""), line.text[1:]
+        if PATH.fullmatch(path):
+            above = path.rpartition(" ")[0]
+            paths[own] = path if own == name else f"{above} {own[len(above) + 1:]}"
+    return paths

@@ -1,0 +1,88 @@
+#!/bin/sh
+"exec" "python3" "-IS" "--" "$0" "$@"
+# Shows again what aigprove printed. The commands in evidence.json, and in that of its folders, are
+# run by the aigcheck and aigedit that AIGCHECK and AIGEDIT name, or that are found. This script has
+# the same bytes in each folder, and what stands in evidence.json is given to these programs alone,
+# as words.
+import hashlib
+import json
+import os
+import shutil
+import subprocess
+import sys
+from typing import Any, NoReturn
+
+# Lines are printed where they stand in the evidence, or those of a table at its end.
+Lines = list[str]
+
+
+def plain(text: str) -> str:
+    """Returns a text as one line that can't drive a terminal."""
+    return "".join(sign if sign.isprintable() else ascii(sign)[1:-1] for sign in text)
+
+
+def fail(what: str) -> NoReturn:
+    """Ends with what isn't shown."""
+    print(f"not shown: {plain(what)}", file=sys.stderr)
+    sys.exit(1)
+
+
+def program(name: str) -> str:
+    """Returns the path of a program, which may be named by its place from where we stand."""
+    given = os.environ.get(name.upper()) or name
+    return os.path.abspath(shutil.which(given) or fail(f"{given} is not there"))
+
+
+def check_files(folder: str, sums: dict[str, str]) -> None:
+    """Ends if a file isn't the one that was kept."""
+    for name, wanted in sums.items():
+        given = hashlib.sha256()
+        with open(os.path.join(folder, name), "rb") as file:
+            while block := file.read(1 << 20):
+                given.update(block)
+        if given.hexdigest() != wanted:
+            fail(f"{name} is another file")
+
+
+def shown(folder: str, limit: list[str], step: dict[str, Any]) -> Lines:
+    """Returns the line of a step of the evidence, once a program has shown it."""
+    if "says" in step:
+        return [step["says"]]
+    words = [program("aigcheck" if "shows" in step else "aigedit"), *limit, *step["by"]]
+    done = subprocess.run(words, cwd=folder, stdin=subprocess.DEVNULL, stdout=subprocess.PIPE)
+    if "shows" in step:
+        if done.returncode or done.stdout != os.fsencode(f"{step['shows']}\n"):
+            fail(step["shows"])
+        return [step["shows"]]
+    with open(os.path.join(folder, step["makes"]), "rb") as file:
+        if done.returncode or done.stdout != file.read():
+            fail(step["makes"])
+    return []
+
+
+def check(folder: str) -> Lines:
+    """Returns the lines that are shown in a folder."""
+    with open(os.path.join(folder, "evidence.json"), encoding="utf-8") as file:
+        kept = json.load(file)
+    limit = [] if kept["limit"] is None else ["--limit", str(kept["limit"])]
+    check_files(folder, kept["files"])
+    lines = [line for step in kept["steps"] for line in shown(folder, limit, step)]
+    for part in kept["parts"]:
+        if part in ("", ".", "..") or "/" in part:
+            fail(f"{part} is no folder in this one")
+        lines += check(os.path.join(folder, part))
+    return lines if kept["table"] is None else list(kept["table"])
+
+
+def main() -> None:
+    """Prints the lines that are shown in this script's folder."""
+    try:
+        lines = check(os.path.dirname(os.path.abspath(__file__)))
+    except (OSError, ValueError, LookupError, TypeError, AttributeError) as why:
+        fail(str(why))
+    for line in lines:
+        sys.stdout.buffer.write(os.fsencode(f"{plain(line)}\n"))
+
+
+if __name__ == "__main__":
+    main()
