@@ -1,8 +1,12 @@
 """Programs, runs of one as they are measured, and files to run it on."""
+from __future__ import annotations
+
 import os
 import pathlib
 import subprocess
 import sys
+from collections.abc import Sequence
+from typing import IO
 
 HERE = pathlib.Path(__file__).resolve().parent
 sys.path.append(str(HERE.parent / "tests"))
@@ -11,34 +15,34 @@ from harness import CHECK, EDIT, FORMS, PROVE, TESTS, TOOL, TOP, compile_aigprov
 DESIGNS = TESTS / "designs"
 
 
-def run(words, out=subprocess.DEVNULL):
+def run(words: Sequence[object], out: int | IO[bytes] = subprocess.DEVNULL) -> tuple[int, float, int]:
     """The status, processor seconds and peak kilobytes of one run. A peak below this script's own, some 12 MiB, isn't seen."""
     child = subprocess.Popen(list(map(str, words)), stdout=out, stderr=subprocess.DEVNULL)
     _, status, usage = os.wait4(child.pid, 0)
     return os.waitstatus_to_exitcode(status), usage.ru_utime + usage.ru_stime, usage.ru_maxrss
 
 
-def instructions(words):
+def instructions(words: Sequence[object]) -> int:
     """How many instructions callgrind counts in a run."""
     with new_folder() as folder:
         counts = folder / "counts"
         status, _, _ = run(["valgrind", "--tool=callgrind", f"--callgrind-out-file={counts}", *words])
         if status != 0:
-            sys.exit(f"{' '.join(words)} ended with status {status}")
+            sys.exit(f"{' '.join(map(str, words))} ended with status {status}")
         return next(int(line.split()[1]) for line in counts.read_text().splitlines() if line.startswith(("totals:", "summary:")))
 
 
-def row(*words):
+def row(*words: object) -> None:
     """A row of a table."""
     print(f"| {' | '.join(map(str, words))} |", flush=True)
 
 
-def heads(*words):
+def heads(*words: object) -> None:
     """The first two rows of a table."""
     row(*words)
     row(*["---"] * len(words))
 
 
-def make(kind, count, file):
+def make(kind: str, count: int, file: str | pathlib.Path) -> None:
     """Makes a file of circuits.py in a process of its own, since a child's peak of memory counts its parent's."""
     subprocess.run([sys.executable, HERE / "circuits.py", kind, str(count), file], check=True)

@@ -59,10 +59,10 @@ def of_parser():
         if action.help != argparse.SUPPRESS:
             names, value = ", ".join(action.option_strings) or action.metavar, action.metavar or "|".join(action.choices or [])
             options += item(f"{names} {value}" if action.option_strings and value else names, action.help)
-    about = re.sub(r"\n  (\w+(?:, \w+)*) +(.*)", r"\n.br\n.B \1\n\2", plain(parser.about())).replace("\nAn engine", "\n.br\nAn engine")
+    about = re.sub(r"\n  (\w+(?:, \w+)*) +(.*)", r"\n.br\n.B \1\n\2", plain(made.description)).replace("\nAn engine", "\n.br\nAn engine")
     about = about.replace("\n\n", "\n.PP\n")
     return [*head("aigprove"), ".B aigprove", ".I FILE .. [TOP] [OPTION ..]", ".SH DESCRIPTION", about.strip(), ".SH OPTIONS", *options,
-            ".SH EXIT STATUS", plain(parser.ends()).strip()]
+            ".SH EXIT STATUS", plain(made.epilog).strip()]
 
 
 def main():

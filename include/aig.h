@@ -137,6 +137,21 @@ enum aig_status {
   AIG_LASSO_LITERAL = 102,    /* A literal of the justice property is not known to hold in the loop. */
   AIG_LASSO_FAIRNESS = 103,   /* A fairness literal is not known to hold in the loop. */
 
+  /* A call on a circuit in memory is refused. */
+  AIG_EMPTY = 110,        /* The handle holds nothing. */
+  AIG_RANGE = 111,        /* An edge, a node, an entry or a list isn't there, or `limit` is 0 or above 2^31. */
+  AIG_FULL = 112,         /* The circuit has more than 2^31 nodes, or could have with what would be added. */
+  AIG_FREE_LEAF = 113,    /* A leaf is neither an input nor a latch's. */
+  AIG_INITIAL_EDGE = 114, /* An initial edge isn't constant. */
+  AIG_LINE_FEED = 115,    /* The name of an input or a latch has a line feed. */
+  AIG_NOT_FREE = 116,     /* The node isn't a free leaf. */
+  AIG_NOT_UTF8 = 117,     /* The name isn't UTF-8. */
+  AIG_NO_NAME = 118,      /* The node has no name. */
+  AIG_NOT_ADMITTED = 119, /* The node isn't a gate, or an operand has no smaller number. */
+  AIG_NO_BEGINNING = 120, /* The circuit doesn't begin with the other one. */
+  AIG_COUNT = 121,        /* There are more or fewer values than inputs or latches. */
+  AIG_VALUE = 122,        /* A value is none of the three. */
+
   /* Added to a status of a call on two files, or about a live circuit: what is refused so. Without any it is the first file, or memory. */
   AIG_OTHER = 256,   /* The second file. */
   AIG_QUERY = 512,   /* The query of the circuit of the two, or of the live one, or its proof. */
@@ -367,4 +382,6 @@ uint32_t aig_obligations(const uint8_t *file, size_t file_len, const uint8_t *ce
 #ifdef __cplusplus
 }
 #endif
+
+#include "aig_circuit.h"
 #endif

@@ -193,12 +193,13 @@ class Clients:
             given = {name: [pair[i] for pair in found] for name, found in pairs.items()}
             self.tally.wants(f"the header's {what} and the exports'", given, wanted)
         shared = harness.output(["nm", "-D", "--defined-only", str(self.folder / "libaig.so")])
-        self.tally.wants("the names of libaig.so", sorted(in_c), sorted(line.split()[-1] for line in shared.splitlines()))
+        wanted = sorted(name for crate in archive.HEADERS for name in archive.names(crate))
+        self.tally.wants("the names of libaig.so", wanted, sorted(line.split()[-1] for line in shared.splitlines()))
 
     def check_statuses(self):
         """Holds the header's statuses and the library's together."""
         values = header_statuses()
-        text = source("crates", "aig_calls", "src", "status.rt")
+        text = "".join(source("crates", crate, "src", "status.rt") for crate in archive.HEADERS)
         constants = dict(re.findall(r"^(?:pub\(crate\) )?const (\w+): u32 = (\d+);", text, re.M))
         first = FIRST | {name: f"{name}_{SECTIONS[0]}" for name in ("SYNTAX", "LITERAL")}
         given = {name: values.get(first.get(name, name)) for name in constants}

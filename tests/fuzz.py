@@ -68,7 +68,7 @@ def damaged_number(rng, data):
     return data[: one.start()] + b"0" * rng.choice([0, 0, 0, 1, 40]) + b"%d" % rng.choice(near + borders) + data[one.end() :]
 
 
-def made_file(rng):
+def made_file(rng: random.Random) -> bytes:
     """A file, damaged a few times or not at all."""
     data = undamaged(rng)
     for _ in range(rng.choice([0, 1, 1, 1, 2, 3])):

@@ -1,4 +1,6 @@
 """What the scripts of this folder stand on: where the programs are, how one is run, spelled bytes, and checks that are counted."""
+from __future__ import annotations
+
 import argparse
 import collections
 import compileall
@@ -15,6 +17,8 @@ import subprocess
 import sys
 import tempfile
 import time
+from collections.abc import Iterator, Sequence
+from typing import Any
 
 TESTS = pathlib.Path(__file__).resolve().parent
 TOP = TESTS.parent
@@ -80,7 +84,7 @@ def compile_aigprove():
     compileall.compile_dir(TOP / "lib" / "aigprove", quiet=1)
 
 
-def parser(doc, *programs, **numbers):
+def parser(doc: str | None, *programs: str, **numbers: int) -> argparse.ArgumentParser:
     """The words of a script, with an option for the path of each of these programs, as `--aigtool PATH`: that which `rt run` builds; and
     with these numbers, of which any at the end may be left out."""
     made = argparse.ArgumentParser(description=doc, formatter_class=argparse.RawDescriptionHelpFormatter)
@@ -95,33 +99,33 @@ def parser(doc, *programs, **numbers):
 class Tally:
     """Counts checks, prints those that fail, and keeps how many each test made in which time."""
 
-    def __init__(self):
+    def __init__(self) -> None:
         self.passed = self.failed = 0
-        self.checks, self.seconds = collections.Counter(), collections.Counter()
+        self.checks, self.seconds = collections.Counter[str](), collections.Counter[str]()
 
     @contextlib.contextmanager
-    def test(self, name):
+    def test(self, name: str) -> Iterator[None]:
         """Counts what is checked as a test of this name, or as more of it."""
         before, begun = self.passed + self.failed, time.monotonic()
         yield
         self.add(name, self.passed + self.failed - before, time.monotonic() - begun)
 
-    def add(self, name, checks, seconds):
+    def add(self, name: str, checks: int, seconds: float) -> None:
         self.checks[name] += checks
         self.seconds[name] += seconds
 
-    def check(self, holds, what):
+    def check(self, holds: object, what: str) -> None:
         """Counts whether something holds."""
         self.passed += bool(holds)
         self.failed += not holds
         if not holds:
             print(f"FAILED: {what}")
 
-    def wants(self, what, wanted, given):
+    def wants(self, what: str, wanted: object, given: object) -> None:
         """Counts whether what is given is what is wanted."""
         self.check(given == wanted, f"{what}\n  wanted {wanted}\n  given  {given}")
 
-    def end(self):
+    def end(self) -> int:
         """Prints each test and the counts, and gives the exit status: 1 where a check failed or none was made."""
         for name, checks in self.checks.items():
             print(f"  {name}: {checks} checks, {self.seconds[name]:.1f} s")
@@ -129,7 +133,7 @@ class Tally:
         return 0 if self.passed and not self.failed else 1
 
 
-def run(words, **how):
+def run(words: Sequence[str | os.PathLike[str]], **how: Any) -> tuple[int | None, bytes, bytes]:
     """The status of a program, what it prints, and what it says on standard error, as bytes. One that doesn't end has no status."""
     try:
         done = subprocess.run(words, **{"stdout": subprocess.PIPE, "stderr": subprocess.PIPE, "timeout": SECONDS, **how})
@@ -232,7 +236,7 @@ def numbers(*defaults):
 
 
 @contextlib.contextmanager
-def new_folder():
+def new_folder() -> Iterator[pathlib.Path]:
     """A new folder, as a path, which is removed again."""
     with tempfile.TemporaryDirectory() as name:
         yield pathlib.Path(name)

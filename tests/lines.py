@@ -32,7 +32,7 @@ PACKAGE = "aigprove"
 MODULES = TOP / "lib" / PACKAGE
 # Calls that tell what they are given; modules whose words are cells of tables; and calls whose arguments are patterns and names.
 TELLING = {"print", "print_line", "say", "tell", "show_progress", "fault", "error", "Fault", "Missing", "Late", "ArgumentTypeError"}
-WORDED = {"report.py", "signals.py", "mismatch.py"}
+WORDED = {"report.py", "signals.py"}
 PASSED = {"namedtuple", "compile", "fullmatch", "search", "sub", "decode", "encode", "startswith", "endswith", "removesuffix", "split"}
 STREAMS = {"out", "err", "both", "part", "file", "-"}
 CARRIERS = ["clause", "when", "never", "aigcheck", "tested", "text", "untested", "none"]

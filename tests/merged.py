@@ -12,7 +12,7 @@ import sys
 import types
 
 import harness
-from aigprove.equality.implied import Pairs
+from aigprove.equality.merged_nodes import Pairs
 from aigprove.equality.merging import Merging
 from aigprove.equality.nodes import Nodes
 

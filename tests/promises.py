@@ -25,9 +25,9 @@ CALLS = [
     ("aig and aig_encode", ["aig", "aig_encode"]),
     ("with the programs", ["aigtool", "aig_tool_commands", "aigcheck", "aig_check_commands", "aig_edit_commands"]),
     ("with checked answers, witnesses and DIMACS", [
-        *("aig_answers", "aig_bounded", "aig_edits", "aig_refutation", "aig_simulated"),
+        *("aig_answers", "aig_bounded", "aig_edits", "aig_refutation", "aig_simulated", "aig_subjects"),
         *("aig_witness", "aig_dimacs")]),
-    ("from C", ["aig_calls"]),
+    ("from C", ["aig_calls", "aig_handles"]),
 ]
 LAWS = "with the laws"
 # The crates that pass on what their promises rest on, each but for what those before it do.
@@ -268,7 +268,7 @@ def closed(words, specs, code):
             std.add(word)
         elif word not in seen:
             seen.add(word)
-            if word not in specs.lines and not word.module.startswith("specs.declared."):
+            if word not in specs.lines and not word.module.startswith(("specs.declared.", "specs.contracts.")):
                 raise ValueError(f"no definition: {'.'.join(word)}")
             todo += specs.cites[word] if word in specs.lines else seen_of_type(word, code)
     return seen & specs.lines.keys(), std

@@ -1,5 +1,5 @@
 -- What is told of a proof of some clauses is told of equal ones.
-use Rattle.aig_answers.proofs.Words.{◌≡◌, ℕ, Bool, List, Option, Result, sym, ap, subst, ◌∙◌, Lit, Circuit, HasClauses, query_clauses, AsksWindow, Window, CircuitQuery, AnswerError, IsCircuitQuery, TellsOfCircuit, TellsOfCircuitWindow, TellsOfProof}
+use Rattle.aig_answers.proofs.Words.{◌≡◌, ℕ, Bool, List, Option, Result, sym, ap, subst, ◌∙◌, Lit, Circuit, HasClauses, query_clauses, AsksWindow, Window, CircuitQuery, AnswerError, IsCircuitQuery, TellsOfCircuit, TellsOfProof}
 
 pub told_alike : (lists others : List (List (List Lit))) (extra more : List (List Lit))
     (text : Option (List ℕ)) (answer : Result (Unit {0}) AnswerError) → lists ≡ others
@@ -34,17 +34,4 @@ query_told are_one c k optimize text answer q is told = (
       (subst (λ u. HasClauses u optimize q.clauses) steps is.has_clauses) also.has_clauses in
       let extra = is.asks.exact ∙ ap (query_clauses c k) steps ∙ sym also.asks.exact in
       told_alike q.clauses other.clauses q.extra other.extra text answer one extra told,
-)
-
--- and so with windows
-pub window_told : WindowsAreOne → (form : Window) (c : Circuit) (k : ℕ) (optimize : Bool)
-    (text : Option (List ℕ)) (answer : Result (Unit {0}) AnswerError)
-    (lists : List (List (List Lit))) (extra : List (List Lit))
-    → AsksWindow form c k optimize lists extra → TellsOfProof lists extra text answer
-    → TellsOfCircuitWindow form k optimize text c answer
-window_told are_one form c k optimize text answer lists extra is told = (
-  (lists, extra, is),
-  λ others more also.
-      let one = are_one form c k optimize lists others extra more is also in
-      told_alike lists others extra more text answer one.0 one.1 told,
 )

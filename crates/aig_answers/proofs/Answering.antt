@@ -1,5 +1,5 @@
 -- The query and the window of the file that was read.
-use Rattle.aig_answers.proofs.Words.{◌≡◌, ◌≢◌, ℕ, ◌+◌, ◌≤◌, Bool, Option, Result, Ok, Err, List, [], refl, sym, subst, arith, IfOk, OnOk, Lit, Circuit, lists_circuit, CircuitLists, FixesRoots, HasClauses, NodeValuesSatisfy, circuit_of, File, Accepts, Fits, AreListsOf, IsReadAs, Accepted, verdict_by, IsFileCircuit, unrolled_size, UnrollsTo, AsksOfCircuit, Encodes, IsQueryOf, Window, IsQuery, CircuitQuery, AnswerError, IsAsked, IsCircuitQuery, IsSaidBy, IsUnrolledWindow, circuit_window_verdict, verdict_of, circuit_verdict, IsUnrolledOf, UnrolledCircuit, Unrolls}
+use Rattle.aig_answers.proofs.Words.{◌≡◌, ◌≢◌, ℕ, ◌+◌, ◌≤◌, Bool, Option, Result, Ok, Err, List, [], sym, subst, arith, IfOk, Lit, Circuit, lists_circuit, CircuitLists, FixesRoots, HasClauses, NodeValuesSatisfy, circuit_of, File, Accepts, Fits, AreListsOf, IsReadAs, Accepted, verdict_by, IsFileCircuit, unrolled_size, UnrollsTo, AsksOfCircuit, Encodes, IsQueryOf, Window, IsQuery, CircuitQuery, AnswerError, IsAsked, IsCircuitQuery, IsSaidBy, IsUnrolledWindow, circuit_window_verdict, verdict_of, circuit_verdict, IsUnrolledOf, UnrolledCircuit, Unrolls}
 use Rattle.aig_answers.specs.declared.windows.UnrolledWindow.{UnrolledWindow}
 use Rattle.aig_runs.proofs.Asking.{unrolls_to}
 use Rattle.aig_answers.proofs.Verdicts.{read_unrolled, bads_of}
@@ -35,12 +35,6 @@ read_lists limit lists old new read = record {
   means = read.means;
   taken = read.taken;
 }
-
--- what an answer shows where it is one
-pub ok_read : {A : Type 0} (B : Unit {0} → Type 0) (r : Result Unit AnswerError) → OnOk r A
-    → (A → verdict_by verdict_of r ≡ Accepted → B tt) → IfOk r B
-ok_read B (Ok done) holds shows = shows holds refl
-ok_read B (Err e) holds shows = tt
 
 -- a circuit was read of which something is asked
 module _ (limit k : ℕ) (c : Circuit) (old new : Option (List ℕ)) (read : IsReadAs (λ bytes. Accepts bytes limit) IsFileCircuit old new c) where

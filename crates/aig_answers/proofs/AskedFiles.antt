@@ -61,19 +61,6 @@ module _ (limit k : ℕ) (optimize : Bool) (lists : CircuitLists)
       subst (λ c. AsksOfBads c k optimize made) read.means
       (asks_of (lists_circuit lists) k optimize made e)
 
-  -- what is shown of the circuit is shown of the file
-  pub asked_of_lists : {X : Type 0} (Means : File → X → Type 0) (x : X)
-      → lists.properties.bads.items ≢ []
-      → ((f : File) → Fits f limit → AreListsOf f lists → Means f x)
-      → IsReadAs (IsAskedWithin limit) Means old new x
-  asked_of_lists Means x some means = record {
-    file = read.file;
-    bytes = read.bytes;
-    holds = (read.holds, bads_of some);
-    means = means read.file read.holds.1 read.means;
-    taken = read.taken;
-  }
-
   pub asked_of : (made : BoundedClauses) → lists.properties.bads.items ≢ []
       → IsEncodedQuestion (lists_circuit lists) k optimize made
       → IsReadAs (IsAskedWithin limit) (λ f. AsksBounded f k optimize) old new made
@@ -153,9 +140,9 @@ module _ (limit k : ℕ) (optimize : Bool) (lists : CircuitLists) (old new : Opt
   }
 
 -- the further clause is of variables that are there
-pub AreBelow-extra : (f : File) (k : ℕ) (optimize : Bool) (made : BoundedClauses)
-    → AsksBounded f k optimize made → AreBelow (length made.clauses) made.extra
-AreBelow-extra f k optimize made is =
+pub AreBelow-extra : (c : Circuit) (k : ℕ) (optimize : Bool) (made : BoundedClauses)
+    → AsksOfBads c k optimize made → AreBelow (length made.clauses) made.extra
+AreBelow-extra c k optimize made is =
     let asks = lists_circuit made.question.circuit in
     let outputs = subst (λ (p : Properties AigEdge). All (IsInRange asks.nodes) p.outputs)
     is.asks.properties is.asks.circuit.properties.outputs in

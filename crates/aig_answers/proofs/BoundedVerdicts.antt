@@ -1,5 +1,5 @@
 -- What is said of a file that was read, and of its question.
-use Rattle.aig_answers.proofs.Words.{◌≡◌, ◌≢◌, ℕ, Bool, Option, List, [], ◌∷◌, length, Result, Ok, Err, refl, sym, ap, subst, ◌∙◌, arith, ◌==◌, if◌then◌else◌, IfOk, IsErrOf, OnOk, length-map, eq-eqb, ne_eqb, Circuit, AigEdge, CircuitLists, edge_of, File, Accepts, ReadError, AreListsOf, IsReadAs, Accepted, IsOfFile, IsSaidOf, Judges, NoBads, Short, Verdict, verdict_by, of_no_file, refused_again, said_of_read, SolutionError, BoundedClauses, BoundedAnswerError, IsOfWitness, IsSaidOfBads, RefusesAnswer, bounded_verdict}
+use Rattle.aig_answers.proofs.Words.{◌≡◌, ◌≢◌, ℕ, Bool, Option, List, [], ◌∷◌, length, Result, Err, refl, sym, ap, subst, ◌∙◌, arith, ◌==◌, if◌then◌else◌, IsErrOf, length-map, eq-eqb, ne_eqb, Circuit, AigEdge, CircuitLists, edge_of, File, Accepts, ReadError, AreListsOf, IsReadAs, Accepted, IsOfFile, IsSaidOf, Judges, NoBads, Short, Verdict, of_no_file, refused_again, said_of_read, SolutionError, BoundedClauses, IsOfWitness, IsSaidOfBads, RefusesAnswer, bounded_verdict}
 use Rattle.aig_reader.specs.Verdicts as reading
 use Rattle.aig_witness.specs.declared.solutions.error.SolutionError.TheVariants as solutions
 use Rattle.aig_answers.specs.declared.bounded_checks.error.BoundedAnswerError.TheVariants as errors
@@ -59,18 +59,6 @@ module _ (limit : ℕ) (old new : Option (List ℕ)) (failed : Bool) where
   judged lists v read told said =
       said_of_read (λ f. Accepted) bounded_verdict limit old new failed v (said_of_file
       lists.properties.bads.items v said) told read (λ f is. said_of_lists f lists is v said)
-
--- ---- of a circuit that is taken
-
-pub taken_bads : (bads : List AigEdge) (v : Verdict) → v ≡ Accepted → IsSaidOfBads bads v → bads ≢ []
-taken_bads bads v taken said = subst (IsSaidOfBads bads) taken said
-
--- what an answer shows where it is one
-pub ok_bads : {A : Type 0} (B : Unit {0} → Type 0) (bads : List AigEdge)
-    (r : Result Unit BoundedAnswerError) → IsSaidOfBads bads (verdict_by verdict_of r) → OnOk r A
-    → (bads ≢ [] → A → B tt) → IfOk r B
-ok_bads B bads (Ok done) said holds shows = shows said holds
-ok_bads B bads (Err e) said holds shows = tt
 
 -- ---- of a question
 

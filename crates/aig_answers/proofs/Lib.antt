@@ -22,13 +22,8 @@ mod BoundedVerdicts
 mod Refuted
 pub mod Telling
 pub mod PairAnswering
-mod Naming
-mod Mitered
-mod Stepping
-mod TellingSafe
-mod AlwaysEqual
-mod Lasting
 mod Planning
 mod PlanInstances
 mod PlanRooms
-mod WordsOfKinds
+mod Showing
+mod GoalFiles

@@ -37,12 +37,13 @@ module _ {X : Type 0} (p : X → Bool) (xs : List X) where
 -- ---- plans
 
 -- there is room for all that is asked where the verdict is that
-room_none : (first crowded : Option ℕ) (many none : Bool) → room_by first many none crowded ≡ Ok tt
+room_none : (many none : Bool) (first crowded : Option ℕ) → room_by many first none crowded ≡ Ok tt
     → crowded ≡ None
-room_none (Some i) crowded many none is = absurd cc
-room_none None crowded many true is = absurd cc
-room_none None (Some i) many false is = absurd cc
-room_none None None many false is = refl
+room_none true none first crowded is = absurd cc
+room_none false none (Some i) crowded is = absurd cc
+room_none false true None crowded is = absurd cc
+room_none false false None (Some i) is = absurd cc
+room_none false false None None is = refl
 
 pub has_room : (limit : ℕ) (plan : List Question) (c : Circuit) → room_of limit plan c ≡ Ok tt
     → All (λ q. HasRoom limit q.ask c) plan

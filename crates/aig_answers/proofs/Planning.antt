@@ -1,6 +1,6 @@
 -- Questions of a circuit: there is one list of clauses of each, and it holds where these are
 -- refuted; plans that are enough; and what is told of a question in the words of each kind.
-use Rattle.aig_answers.proofs.Words.{◌≡◌, ◌≢◌, ◌↔◌, ◌++◌, ℕ, ◌<◌, ◌≤◌, Bool, Option, Some, None, List, length, Result, Ok, Err, inl, inr, refl, sym, ap, ap₂, subst, ◌∙◌, arith, below_more, set, ◌+◌, All, IsErrOf, get_or_from_slice_get, slice_get, slice_get_within, IsSatisfiable, clauses_in, Lit, Memory, Circuit, IsCircuit, HasClauses, AsksOfCircuit, IsKInductive, IsSafeTo, query_clauses, IsCircuitSafeAt, IsSafeAt, AsksWindow, Window, IsCircuitOf, AsksOfBads, IsSettled, AnswersAt, AreRefuted, AreTaken, AreUnread, Covers, HasNone, Includes, IsTooLarge, Makes, Tells, BoundedClauses, Why, Question, WindowClauses}
+use Rattle.aig_answers.proofs.Words.{◌≡◌, ◌≢◌, ◌↔◌, ◌++◌, ℕ, ◌<◌, ◌≤◌, Bool, Option, Some, None, List, length, Result, Ok, Err, inl, inr, refl, sym, ap, ap₂, subst, ◌∙◌, arith, below_more, set, ◌+◌, All, IsErrOf, get_or_from_slice_get, slice_get, slice_get_within, IsSatisfiable, clauses_in, Lit, Memory, Circuit, IsCircuit, HasClauses, AsksOfCircuit, IsKInductive, IsSafeTo, query_clauses, IsCircuitSafeAt, IsSafeAt, AsksWindow, Window, IsCircuitOf, AsksOfBads, IsSettled, AnswersAt, AreRefuted, AreTaken, AreUnread, Covers, HasNone, Includes, IsTooLarge, Makes, Tells, BoundedClauses, Why, Question, WindowClauses, zero, suc, [], ◌∷◌, without_names, IsCircuitWitness}
 use Rattle.aig_bounded.specs.declared.error.BoundedError.{BoundedError}
 use Rattle.aig_bounded.specs.declared.error.BoundedError.TheVariants.{TooLarge}
 use Rattle.aig_format.specs.Circuit.{circuit_of}
@@ -12,8 +12,45 @@ use Rattle.aig_answers.specs.declared.plans.asking.Ask.TheVariants as asks
 use Rattle.aig_answers.proofs.Alike.{AreOne, WindowsAreOne}
 use Rattle.aig_answers.proofs.NamelessWindows.{asks_of_file}
 use Rattle.aig_answers.proofs.Single.{settled_back}
-use Rattle.aig_answers.proofs.Stepping.{get_set_here, get_set_kept}
-use Rattle.aig_answers.proofs.TellingSafe.{file_safe}
+
+-- ---- lists
+
+-- a list after a write, at a place where it wrote nothing else
+get_set_kept : {X : Type 0} (xs : List X) (i j : ℕ) (x : X)
+    → (i ≡ j → slice_get xs j ≡ Some x) → slice_get (set xs i x) j ≡ slice_get xs j
+get_set_kept [] i j x same = refl
+get_set_kept (y ∷ ys) zero zero x same = sym (same refl)
+get_set_kept (y ∷ ys) zero (suc j) x same = refl
+get_set_kept (y ∷ ys) (suc i) zero x same = refl
+get_set_kept (y ∷ ys) (suc i) (suc j) x same = get_set_kept ys i j x (λ is. same (ap suc is))
+
+-- and at the place itself
+get_set_here : {X : Type 0} (xs : List X) (i : ℕ) (x : X) → i < length xs
+    → slice_get (set xs i x) i ≡ Some x
+get_set_here [] i x low = absurd (omega (arith, low))
+get_set_here (y ∷ ys) zero x low = refl
+get_set_here (y ∷ ys) (suc i) x low = get_set_here ys i x (omega (arith, low))
+
+-- ---- of a circuit and its file
+
+-- names are nothing to witnesses
+unnamed : (c d : Circuit) (k : ℕ) (x : ℕ → ℕ → Bool) → without_names c ≡ without_names d
+    → IsCircuitWitness d k x → IsCircuitWitness c k x
+unnamed c d k x same w =
+    let bare : IsCircuitWitness (without_names d) k x =
+    record { is_run = w.is_run; start = w.start; constraints = w.constraints; bad = w.bad } in
+    let other = subst (λ e. IsCircuitWitness e k x) (sym same) bare in
+    record {
+      is_run = other.is_run;
+      start = other.start;
+      constraints = other.constraints;
+      bad = other.bad;
+    }
+
+-- so a circuit without a bad state at a step is that of a file without one
+file_safe : (f : File) (c : Circuit) (k : ℕ) → IsCircuitOf f c → IsCircuitSafeAt c k
+    → IsCircuitSafeAt (circuit_of f) k
+file_safe f c k is safe (x, w) = safe (x, unnamed c (circuit_of f) k x is w)
 
 -- ---- refuted clauses
 

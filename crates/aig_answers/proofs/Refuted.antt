@@ -1,9 +1,8 @@
 -- Wrong results, of which the definitions are false.
-use Rattle.std.proofs.Common.{◌≡◌, ◌≢◌, ◌≤◌, ◌^◌, ℕ, Bool, false, Option, Some, Ok, Err, IfOk, List, [], length, slice_get, sym, ap, subst, ◌∙◌, arith}
-use Rattle.aig_answers.proofs.Words.{Contains, Contains-get_or, get_or_from_slice_get, slice_get_within, Lbool, NoBad, solution_in, Place, BoundedClauses, BoundedAnswerError, Named, AreSolution, AsksBounded, IsAskedWithin, IsSettled, RefusesAnswer, IsNamed, leaf_of}
+use Rattle.std.proofs.Common.{◌≡◌, ◌≢◌, ◌≤◌, ◌^◌, ℕ, Bool, false, Some, Ok, IfOk, List, [], length, slice_get, sym, ap, subst, ◌∙◌, arith}
+use Rattle.aig_answers.proofs.Words.{Contains, Contains-get_or, get_or_from_slice_get, slice_get_within, Lbool, NoBad, solution_in, Place, BoundedClauses, Named, AreSolution, AsksBounded, IsAskedWithin, RefusesAnswer, IsNamed, leaf_of}
 use Rattle.aig_circuit.proofs.Words.{Circuit, lists_circuit}
 use Rattle.aig_format.specs.File.{File}
-use Rattle.aig_answers.specs.Asking.{TellsOfProof}
 
 -- a file without bad literals, of which nothing is asked
 no_bads : (limit : ℕ) (bytes : List ℕ) (f : File) → f.properties.bads ≡ []
@@ -43,11 +42,6 @@ no_input_name c p name input none named =
     let low = slice_get_within c.inputs name.number p.leaf found in
     none (subst (Contains c.inputs) (get_or_from_slice_get c.inputs name.number p.leaf 0 found)
     (Contains-get_or c.inputs name.number 0 low))
-
--- an error where nothing needs a proof
-no_refused_settled : {P : Type 0} (left : P → Option (List ℕ)) (made : BoundedClauses) (p rest : P)
-    (e : BoundedAnswerError) → IsSettled made → ¬ TellsOfProof left made p rest (Err e)
-no_refused_settled left made p rest e settled told = let is = (told.settled settled).0 in cc
 
 -- a solution of clauses that is refused as none, where a witness can name each bad literal
 no_refused_solution : (bytes : List ℕ) (failed : Bool) (bads : ℕ) (made : BoundedClauses)

@@ -1,12 +1,10 @@
 -- A circuit's question has one list of clauses.
-use Rattle.aig_answers.proofs.Words.{◌≡◌, ◌++◌, ◌∷◌, [], ℕ, Bool, false, Option, List, length, Result, Ok, Err, sym, ap, ap₂, subst, ◌∙◌, All, clauses_in, Lit, are_true, edge_to, lit_of, HasClauses, Shows, SolutionError, GivesSolution, solution_in, Witness, Lbool, BoundedClauses, BoundedAnswerError, SaysRun, SaysValues, AreSaid, AsksOfBads, IsSettled, RefusesAnswer, ShowsProof, assigned}
+use Rattle.aig_answers.proofs.Words.{◌≡◌, ◌++◌, ◌∷◌, [], ℕ, Bool, false, Option, List, length, Ok, Err, sym, ap, ap₂, subst, ◌∙◌, All, clauses_in, Lit, are_true, edge_to, lit_of, HasClauses, SolutionError, GivesSolution, solution_in, Witness, Lbool, BoundedClauses, SaysRun, SaysValues, AreSaid, AsksOfBads, IsSettled, RefusesAnswer, assigned}
 use Rattle.aig_base.proofs.Words.{IfSome}
 use Rattle.aig_circuit.proofs.Words.{Circuit, lists_circuit}
 use Rattle.aig_cnf.proofs.OneList.{one_list}
 use Rattle.aig_witness.specs.declared.solutions.error.SolutionError.TheVariants as solutions
 use Rattle.aig_bounded.proofs.Single.{question_same}
-use Rattle.aig_answers.specs.declared.bounded_checks.error.BoundedAnswerError.TheVariants as errors
-use Rattle.aig_answers.specs.Asking.{TellsOfProof}
 
 module _ (c : Circuit) (k : ℕ) (optimize : Bool) (one other : BoundedClauses)
     (is : AsksOfBads c k optimize one) (are : AsksOfBads c k optimize other) where
@@ -36,32 +34,6 @@ module _ (c : Circuit) (k : ℕ) (optimize : Bool) (one other : BoundedClauses)
   settled_back settled =
       subst (λ (c : Circuit). All (λ e. e ≡ edge_to 0 false) c.properties.outputs) (sym same.0)
       settled
-
-  settled_forth : IsSettled one → IsSettled other
-  settled_forth settled =
-      subst (λ (c : Circuit). All (λ e. e ≡ edge_to 0 false) c.properties.outputs) same.0 settled
-
-  -- a proof's bytes show the same of both
-  shows_same : (text : Option (List ℕ)) (r : _) → Shows (length one.clauses) (clauses_in one.clauses ++ one.extra) text r
-      → Shows (length other.clauses) (clauses_in other.clauses ++ other.extra) text r
-  shows_same text r shows =
-      subst (λ (extra : List (List Lit)). Shows (length other.clauses) (clauses_in other.clauses ++ extra) text r) same_further
-      (subst (λ (lists : List (List (List Lit))). Shows (length lists) (clauses_in lists ++ one.extra) text r) same_clauses shows)
-
-  shown_same : (text : Option (List ℕ)) (r : Result Unit BoundedAnswerError) → ShowsProof one text r
-      → ShowsProof other text r
-  shown_same text (Ok done) shown = shows_same text (Ok tt) shown
-  shown_same text (Err (errors.Refutation e)) shown = shows_same text (Err e) shown
-  shown_same text (Err e) shown = absurd shown
-
-  -- so what is told of a proof is told of both
-  pub told_same : {P : Type 0} (left : P → Option (List ℕ)) (p rest : P)
-      (r : Result Unit BoundedAnswerError) → TellsOfProof left one p rest r
-      → TellsOfProof left other p rest r
-  told_same left p rest r told = record {
-    settled = λ settled. told.settled (settled_back settled);
-    shown = λ unsettled. shown_same (left p) r (told.shown (λ settled. unsettled (settled_forth settled)));
-  }
 
   -- an answer says the same of both
   same_said : (text : Option (List ℕ)) (values : List Lbool) → AreSaid text one values

@@ -1,10 +1,6 @@
 -- What is said of a circuit, and of the file that it is of.
-use Rattle.aig_answers.proofs.Words.{◌≡◌, ◌≢◌, ℕ, ◌+◌, ◌≤◌, Bool, true, false, Option, List, [], length, map, refl, sym, ap, subst, ◌∙◌, ◌==◌, nat_lt, if◌then◌else◌, length-map, eqb-false, ltb-false, Circuit, AigEdge, AigLatch, AigNode, circuit_of, edge_of, File, Accepts, ReadError, IsReadAs, Accepted, Crowded, IsOfFile, IsSaidOf, Judges, NoBads, Short, TooLarge, Verdict, verdict_by, of_no_file, refused_again, said_of_read, IsFileCircuit, unrolled_size, Window, IsOfQuery, IsOfStep, IsSaidBy, asked_verdict, circuit_window_verdict, verdict_of, window_size, window_verdict, asks_verdict, circuit_verdict, AnswerError}
+use Rattle.aig_answers.proofs.Words.{◌≡◌, ◌≢◌, ℕ, ◌+◌, ◌≤◌, Bool, true, false, Option, List, [], length, map, refl, sym, ap, subst, ◌∙◌, ◌==◌, nat_lt, if◌then◌else◌, length-map, eqb-false, ltb-false, Circuit, AigEdge, AigLatch, AigNode, circuit_of, edge_of, File, Accepts, ReadError, IsReadAs, Accepted, Crowded, IsOfFile, IsSaidOf, Judges, NoBads, Short, TooLarge, Verdict, of_no_file, refused_again, said_of_read, IsFileCircuit, unrolled_size, Window, IsSaidBy, asked_verdict, circuit_window_verdict, verdict_of, window_size, window_verdict, asks_verdict, circuit_verdict}
 use Rattle.aig_reader.specs.Verdicts as reading
-use Rattle.aig_encode.specs.declared.error.EncodeError.{EncodeError}
-use Rattle.aig_encode.specs.declared.error.EncodeError.TheVariants as encode
-use Rattle.aig_encode.specs.Encoding as encoding
-use Rattle.aig_answers.specs.declared.error.AnswerError.TheVariants as errors
 
 -- ---- by tests
 
@@ -44,6 +40,13 @@ asked_said true empty = refl
 asked_said false true = refl
 asked_said false false = refl
 
+crowded_said : (large empty crowded : Bool) → let room = if crowded then Crowded else Accepted in
+    IsSaidBy (said_if large empty room) (said_if large empty room)
+crowded_said true empty crowded = refl
+crowded_said false true crowded = refl
+crowded_said false false true = refl
+crowded_said false false false = refl
+
 module _ (limit k : ℕ) (c : Circuit) where
   -- the verdict itself is said of the circuit
   pub circuit_said : (v : Verdict) → v ≡ circuit_verdict limit k c
@@ -51,6 +54,14 @@ module _ (limit k : ℕ) (c : Circuit) where
   circuit_said v is =
       subst (IsSaidBy (circuit_verdict limit k c)) (sym is)
       (asked_said (nat_lt limit (unrolled_size c k)) (length c.properties.bads == 0))
+
+  -- and so that on one that is asked for a window
+  pub room_said : (form : Window) (v : Verdict) → v ≡ circuit_window_verdict form limit k c
+      → IsSaidBy (circuit_window_verdict form limit k c) v
+  room_said form v is =
+      subst (IsSaidBy (circuit_window_verdict form limit k c)) (sym is)
+      (crowded_said (nat_lt limit (unrolled_size c (k + 1))) (length c.properties.bads == 0)
+      (nat_lt limit (window_size form c k)))
 
   -- and by its lists
   pub asks_alike : (nodes : List AigNode) (latchs : List AigLatch) (bads : List AigEdge)
@@ -144,23 +155,3 @@ module _ (limit k : ℕ) (old new : Option (List ℕ)) (failed : Bool) where
   asked_judged c v read told said =
       judged (circuit_verdict limit k) (asked_verdict limit k) (asked_alike limit k) limit old new
       failed c v (circuit_of_file limit k c) read told said
-
--- ---- errors
-
--- bytes that no answer was given of are not taken
-not_taken : (e : EncodeError) → encoding.verdict_of e ≢ Accepted
-not_taken (encode.Read e) is = of_no_file e (subst IsOfFile (sym is) tt)
-not_taken encode.Memory is = cc
-not_taken encode.TooLarge is = cc
-
-pub query_not_taken : (e : AnswerError) → IsOfQuery e → verdict_of e ≢ Accepted
-query_not_taken (errors.Encode e) own is = not_taken e is
-query_not_taken errors.NoBads own is = cc
-query_not_taken errors.TooLarge own is = own
-query_not_taken (errors.Refutation e) own is = own
-
-pub query_of_step : (e : AnswerError) → IsOfQuery e → IsOfStep e
-query_of_step (errors.Encode e) own = own
-query_of_step errors.NoBads own = tt
-query_of_step errors.TooLarge own = own
-query_of_step (errors.Refutation e) own = tt

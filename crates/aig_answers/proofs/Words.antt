@@ -1,17 +1,13 @@
 -- Words that proofs share, from one place.
 pub use Rattle.aig.specs.Reading.{IsFileCircuit}
-pub use Rattle.aig_answers.specs.Answers.{AreWrittenFrom, AskWith, IsAsked, IsCircuitOf, IsCircuitQuery, IsOfInduction, IsOfQuery, IsOfStep, IsOfWindow, IsSaidBy, IsUnrolledWindow, TellsOfCircuit, TellsOfCircuitWindow, TellsOfProof, TellsOfStep, TellsOfWindow, asked_verdict, circuit_window_verdict, query_with, verdict_of, window_size, window_verdict, without_names}
-pub use Rattle.aig_answers.specs.Asking.{AnswersCircuit, AnswersProof, AreSaid, AreSolution, AsksBounded, AsksOfBads, IsAskedWithin, IsOfWitness, IsSaidOfBads, IsSettled, RefusesAnswer, RefusesSolution, ShowsProof, TellsOfSize, assigned, bounded_verdict, is_true}
-pub use Rattle.aig_answers.specs.Certificates.{Certifies, Equals, IsOfClauses, IsOwn, Obliges, TellsOfQuery, TellsOfTwo, first_verdict, joint_verdict, second_verdict}
+pub use Rattle.aig_answers.specs.Answers.{AreWrittenFrom, AskWith, IsAsked, IsCircuitOf, IsCircuitQuery, IsOfQuery, IsOfWindow, IsSaidBy, IsUnrolledWindow, TellsOfCircuit, TellsOfProof, asked_verdict, circuit_window_verdict, query_with, verdict_of, window_size, window_verdict, without_names}
+pub use Rattle.aig_answers.specs.Asking.{AreSaid, AreSolution, AsksBounded, AsksOfBads, IsAskedWithin, IsOfWitness, IsSaidOfBads, IsSettled, RefusesAnswer, RefusesSolution, TellsOfSize, assigned, bounded_verdict, is_true}
+pub use Rattle.aig_answers.specs.Certificates.{IsOfClauses, Obliges, first_verdict, joint_verdict, second_verdict}
 pub use Rattle.aig_answers.specs.CircuitVerdicts.{asks_verdict, circuit_verdict}
-pub use Rattle.aig_answers.specs.Comparing.{CertifiesMiter, EqualsBy, IsOfCertificate, ReadsBeside}
 pub use Rattle.aig_answers.specs.Encoded.{HasName, IsEncoded, IsEncodedQuestion}
-pub use Rattle.aig_answers.specs.Liveness.{HasNoLasso, HasNoLassoTo, HasNoRun}
 pub use Rattle.aig_answers.specs.Naming.{IsNamed, leaf_of}
-pub use Rattle.aig_answers.specs.PairParts.{AsksBoth, HasNoWindow, HoldsBeside, HoldsBoth, HoldsStep, IsOfProof, StandsBeside}
-pub use Rattle.aig_answers.specs.PlanWords.{answer_error, answer_of, bounded_of}
-pub use Rattle.aig_answers.specs.Plans.{AnswersAt, AreRefuted, AreTaken, AreUnread, Covers, HasNone, HasRoom, Includes, IsHeld, IsTooLarge, Makes, Tells, asked_with, plan_certified, plan_each, plan_to, room_by, room_of, size_of, step_questions}
-pub use Rattle.aig_answers.specs.Safety.{ShowsCircuit}
+pub use Rattle.aig_answers.specs.PairParts.{AsksBoth}
+pub use Rattle.aig_answers.specs.Plans.{AnswersAt, AreRefuted, AreTaken, AreUnread, Covers, HasNone, HasRoom, Includes, IsTooLarge, Makes, Tells, asked_with, plan_certified, plan_each, plan_to, room_by, room_of, size_of, step_questions}
 pub use Rattle.aig_answers.specs.Said.{IsSaid, IsSaidStart, SaysRun, SaysValues, SaysWitness}
 pub use Rattle.aig_answers.specs.Solving.{Begins, HasNoTrueIn, HasPlace, IsBlank, IsConstrained, IsOpenAt, IsReached, IsTrueIn, SaysAll, SaysOnly, WitnessWithin, after, put, start_value, value_at, value_of_init, value_said, with_value}
 pub use Rattle.aig_answers.specs.declared.bounded_checks.clauses.BoundedClauses.{BoundedClauses}
@@ -25,7 +21,7 @@ pub use Rattle.aig_answers.specs.declared.plans.asking.Question.{Question}
 pub use Rattle.aig_answers.specs.declared.plans.errors.Why.{Why}
 pub use Rattle.aig_answers.specs.declared.windows.WindowClauses.{WindowClauses}
 pub use Rattle.aig_base.proofs.Literals.{literal_value-lit_to, variable_of-lit_to}
-pub use Rattle.aig_base.proofs.Words.{All, All-cons, All-contains, All-drop, All-from_recursion, All-get_or, All-map, All-nil, All-push, All-same, All-set, All-take, All-weaker, AllByRecursion, AllZip, AllZip-long, Any-from_list_any, Bool, Contains, Contains-get_or, Err, IfErr, IfOk, IsErrOf, IsTrue, List, None, Ok, OnOk, Option, Result, Some, [], add-mul, and_parts, ap, append-nil, append_assoc, ap₂, arith, below_more, cases_lt, cond, drop, eq-eqb, eqb, eqb-false, err_from_is_err_and, false, false≢true, get_or, get_or-append_seam, get_or_append_left, get_or_from_slice_get, if◌then◌else◌, inl, inr, le-ltb, leb, length, length-append, length-drop, length-map, length-set, length-take-le, list_all-append, list_any, lt-ltb, ltb-false, map, map-map, map_more, map_push, mul-le-mul_right, nat_lt, ne_eqb, not, on_ok_weaker, range_with_len, recursion_from_All, refl, same_Some, set, slice_get, slice_get-get_or, slice_get_within, slice_index, slice_index_or, subst, suc, sym, take, take_all, true, true_from_ne_false, with_items_is, zero, ℕ, ◌*◌, ◌++◌, ◌+◌, ◌-◌, ◌<◌, ◌==◌, ◌^◌, ◌||◌, ◌↔◌, ◌∙◌, ◌∷◌, ◌≡◌, ◌≢◌, ◌≤◌, ◌⊎◌}
+pub use Rattle.aig_base.proofs.Words.{All, All-cons, All-contains, All-drop, All-from_recursion, All-get_or, All-map, All-nil, All-push, All-same, All-set, All-take, All-weaker, AllByRecursion, AllZip, AllZip-long, Any-from_list_any, Bool, Contains, Contains-get_or, Err, IfOk, IsErrOf, IsTrue, List, None, Ok, Option, Result, Some, [], add-mul, and_parts, ap, append-nil, append_assoc, ap₂, arith, below_more, cases_lt, cond, drop, eq-eqb, eqb, eqb-false, err_from_is_err_and, false, false≢true, get_or, get_or-append_seam, get_or_append_left, get_or_from_slice_get, if◌then◌else◌, inl, inr, le-ltb, leb, length, length-append, length-drop, length-map, length-set, length-take-le, list_all-append, list_any, lt-ltb, ltb-false, map, map-map, map_more, map_push, mul-le-mul_right, nat_lt, ne_eqb, not, on_ok_weaker, range_with_len, recursion_from_All, refl, same_Some, set, slice_get, slice_get-get_or, slice_get_within, slice_index, slice_index_or, subst, suc, sym, take, take_all, true, true_from_ne_false, with_items_is, zero, ℕ, ◌*◌, ◌++◌, ◌+◌, ◌-◌, ◌<◌, ◌==◌, ◌^◌, ◌||◌, ◌↔◌, ◌∙◌, ◌∷◌, ◌≡◌, ◌≢◌, ◌≤◌, ◌⊎◌}
 pub use Rattle.aig_base.specs.Clauses.{AreBelow, AreRelations, Satisfies, are_true, is_positive, is_true_clause, lit_to, variable_of, with_polarity}
 pub use Rattle.aig_base.specs.Formula.{IsSatisfiable, clauses_in}
 pub use Rattle.aig_base.specs.declared.logic.literal.Lit.{Lit}
@@ -39,7 +35,7 @@ pub use Rattle.aig_circuit.proofs.Lists.{All-from_map, AllZip-map}
 pub use Rattle.aig_circuit.proofs.Trees.{kind_at-within, node_value-false}
 pub use Rattle.aig_circuit.proofs.Words.{HasConstantInit, IsInRange, IsInitial, IsLeaf, IsRun, Properties, edge_to, edge_value, lit_of, no_properties, node_value, only_false}
 pub use Rattle.aig_circuit.specs.Circuit.{Circuit, IsCircuit, IsClosed, latch_leaves}
-pub use Rattle.aig_circuit.specs.Edge.{inverse, literal_of}
+pub use Rattle.aig_circuit.specs.Edge.{inverse}
 pub use Rattle.aig_circuit.specs.View.{lists_circuit}
 pub use Rattle.aig_circuit.specs.declared.edge.AigEdge.{AigEdge}
 pub use Rattle.aig_circuit.specs.declared.node.AigLatch.{AigLatch}
@@ -48,27 +44,22 @@ pub use Rattle.aig_circuit.specs.declared.node.AigNodeType.TheVariants.{False, L
 pub use Rattle.aig_circuit.specs.declared.view.CircuitLists.{CircuitLists}
 pub use Rattle.aig_cnf.proofs.Forms.{edge_in-inverse, literal_value-lit_of}
 pub use Rattle.aig_cnf.specs.Cnf.{AreNeeded, FixesRoots, HasClauses, IsFixed, NodeValuesSatisfy, edge_in}
-pub use Rattle.aig_edits.proofs.Again.{again_closed, again_fits, again_starts}
-pub use Rattle.aig_edits.proofs.ReadFiles.{file_on}
 pub use Rattle.aig_edits.proofs.Reading.{reads_on}
-pub use Rattle.aig_edits.specs.Joints.{IsJointOf, IsMisfit, IsRefusalOf, counted}
-pub use Rattle.aig_edits.specs.declared.pairing.Pairing.TheVariants.{Certificate, Miter}
+pub use Rattle.aig_edits.specs.Joints.{IsJointOf}
+pub use Rattle.aig_edits.specs.declared.pairing.Pairing.TheVariants.{Certificate}
 pub use Rattle.aig_encode.proofs.Bads.{bads_room}
 pub use Rattle.aig_encode.specs.Encoding.{IsQuery}
 pub use Rattle.aig_format.proofs.Circuits.{IsCircuit-of_file}
 pub use Rattle.aig_format.proofs.Entries.{rec_append}
-pub use Rattle.aig_format.proofs.Words.{Accepts, File, Fits, FitsFormat, IsMachineRun, IsReadAgain, LatchLine, circuit_of, edge_of, file_of, latch_line, latch_of, node_of_variable, value_of_literal, without_other_names}
+pub use Rattle.aig_format.proofs.Words.{Accepts, File, Fits, IsMachineRun, LatchLine, circuit_of, edge_of, latch_of, node_of_variable, value_of_literal}
 pub use Rattle.aig_format.specs.declared.FileKind.TheVariants.{Text}
 pub use Rattle.aig_format_laws.proofs.Closed.{IsClosed-of_file}
 pub use Rattle.aig_format_laws.proofs.Writable.{plain_starts}
 pub use Rattle.aig_format_laws.specs.Nodes.{values_over}
-pub use Rattle.aig_join.specs.Constraints.{AreEqualMachinesBy}
-pub use Rattle.aig_join.specs.declared.comparison.Comparison.{Comparison}
 pub use Rattle.aig_reader.proofs.Verdicts.{of_no_file, refused_again, said_of_read}
 pub use Rattle.aig_reader.specs.Reading.{AreListsOf, IsReadAs}
 pub use Rattle.aig_reader.specs.Verdicts.{Accepted, Crowded, IsOfFile, IsSaidOf, IsVerdictOn, Judges, NoBads, Short, TooLarge, TooMany, Verdict, verdict_by}
 pub use Rattle.aig_reader.specs.declared.error.ReadError.{ReadError}
-pub use Rattle.aig_refutation.specs.Checking.{Shows}
 pub use Rattle.aig_runs.proofs.Below.{bads_count, edges_there, latchs_there, query_below, window_below}
 pub use Rattle.aig_runs.proofs.Further.{Holds, clause_says, stand_all, stand_any, units_say}
 pub use Rattle.aig_runs.proofs.Rows.{all_is, any_none, get-drop, next_row, rec_from_get}

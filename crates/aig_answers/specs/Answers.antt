@@ -21,9 +21,7 @@ use Rattle.aig_runs.specs.declared.window.Window.{Window}
 use Rattle.aig_runs.specs.WindowClauses.{AsksWindow, count_free}
 use Rattle.aig_refutation.specs.Checking.{Shows}
 use Rattle.aig_encode.specs.declared.error.EncodeError.TheVariants as encode
-use Rattle.aig_encode.specs.declared.query_clauses.Query.{Query}
 use Rattle.aig_encode.specs.Encoding as encoding
-use Rattle.aig_encode.specs.Encoding.{IsQuery}
 use Rattle.aig_answers.specs.declared.circuits.CircuitQuery.{CircuitQuery}
 use Rattle.aig_answers.specs.declared.clause_parts.ClauseParts.{ClauseParts}
 use Rattle.aig_answers.specs.declared.windows.UnrolledWindow.{UnrolledWindow}
@@ -147,28 +145,8 @@ TellsOfProof lists extra text (Err (errors.Refutation e)) =
     Shows (length lists) (clauses_in lists ++ extra) text (Err e)
 TellsOfProof lists extra text (Err e) = Unit {0}
 
--- the file has a query for step k, and the answer is so of the clauses of each: of those that any
--- call gives or prints, as there is one (`encodings_are_one`)
-abbrev pub TellsOfStep : ℕ → Bool → Option (List ℕ) → File → Result (Unit {0}) AnswerError → Type 0
-TellsOfStep k optimize text f answer =
-    ((q : Query) × IsQuery k optimize f q)
-    × ((q : Query) → IsQuery k optimize f q → TellsOfProof q.encoded.clauses q.extra text answer)
-
--- so with the clauses of a circuit's window (`windows_are_one`)
-abbrev pub TellsOfCircuitWindow : Window → ℕ → Bool → Option (List ℕ) → Circuit
-    → Result (Unit {0}) AnswerError → Type 0
-TellsOfCircuitWindow form k optimize text c answer =
-    ((lists : List (List (List Lit))) × (extra : List (List Lit))
-    × AsksWindow form c k optimize lists extra)
-    × ((lists : List (List (List Lit))) (extra : List (List Lit))
-    → AsksWindow form c k optimize lists extra → TellsOfProof lists extra text answer)
-
--- with those of the window of the file's circuit
-abbrev pub TellsOfWindow : Window → ℕ → Bool → Option (List ℕ) → File
-    → Result (Unit {0}) AnswerError → Type 0
-TellsOfWindow form k optimize text f = TellsOfCircuitWindow form k optimize text (circuit_of f)
-
--- and with those of a circuit's query for step k
+-- the circuit has a query for step k, and the answer is so of the clauses of each: of those that
+-- any call gives or prints, as there is one (`circuit_clauses_are_one`)
 abbrev pub TellsOfCircuit : ℕ → Bool → Option (List ℕ) → Circuit → Result (Unit {0}) AnswerError
     → Type 0
 TellsOfCircuit k optimize text c answer =
@@ -185,20 +163,9 @@ IsOfQuery errors.NoBads = Unit {0}
 IsOfQuery errors.TooLarge = ⊥
 IsOfQuery (errors.Refutation e) = ⊥
 
--- of the query and its proof
-abbrev pub IsOfStep : AnswerError → Type 0
-IsOfStep (errors.Encode e) = e ≢ encode.Read read.Open
-IsOfStep errors.NoBads = Unit {0}
-IsOfStep errors.TooLarge = ⊥
-IsOfStep (errors.Refutation e) = Unit {0}
-
 -- of a file's window
 abbrev pub IsOfWindow : AnswerError → Type 0
 IsOfWindow (errors.Encode e) = e ≢ encode.Read read.Open
 IsOfWindow errors.NoBads = Unit {0}
 IsOfWindow errors.TooLarge = Unit {0}
 IsOfWindow (errors.Refutation e) = ⊥
-
--- of the window and its proof
-abbrev pub IsOfInduction : AnswerError → Type 0
-IsOfInduction e = e ≢ errors.Encode (encode.Read read.Open)

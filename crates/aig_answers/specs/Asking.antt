@@ -1,7 +1,7 @@
 -- Part of what is promised.
 -- The clauses of a bounded check of a file's machine, and what an answer says of the bytes of the
 -- file and of a proof. (Bounded model checking; Tseitin encoding.)
-use Rattle.std.specs.Prelude.{◌≡◌, ◌≢◌, ℕ, ◌==◌, ◌<◌, ◌≤◌, ◌^◌, if◌then◌else◌, Bool, true, false, IsTrue, Option, IfSome, List, [], ◌∷◌, ◌++◌, length, All, slice_index_or, Result, Ok, Err}
+use Rattle.std.specs.Prelude.{◌≡◌, ◌≢◌, ℕ, ◌==◌, ◌<◌, ◌≤◌, ◌^◌, if◌then◌else◌, Bool, true, false, IsTrue, Option, IfSome, List, [], ◌∷◌, ◌++◌, length, All, slice_index_or, Ok, Err}
 use Rattle.std.specs.List.{AllZip}
 use Rattle.aig_base.specs.declared.logic.three.Lbool.{Lbool}
 use Rattle.aig_base.specs.declared.logic.three.Lbool.TheVariants.{TRUE, NONE}
@@ -19,7 +19,6 @@ use Rattle.aig_reader.specs.declared.error.ReadError.TheVariants as read
 use Rattle.aig_reader.specs.Reading.{IsReadAs}
 use Rattle.aig_reader.specs.Verdicts as reading
 use Rattle.aig_reader.specs.Verdicts.{Accepted, NoBads, Short, Verdict}
-use Rattle.aig_refutation.specs.Checking.{Shows}
 use Rattle.aig_witness.specs.declared.solutions.error.SolutionError.{SolutionError}
 use Rattle.aig_witness.specs.declared.solutions.error.SolutionError.TheVariants as solutions
 use Rattle.aig_witness.specs.SolverAnswers.{GivesSolution, solution_in}
@@ -91,14 +90,6 @@ IsOfQuestion (errors.Question e) = Unit {0}
 IsOfQuestion (errors.Refutation e) = ⊥
 IsOfQuestion (errors.Solution e) = ⊥
 
--- of the question and its proof
-abbrev pub IsOfCheck : BoundedAnswerError → Type 0
-IsOfCheck (errors.Read e) = e ≢ read.Open
-IsOfCheck errors.NoBads = Unit {0}
-IsOfCheck (errors.Question e) = Unit {0}
-IsOfCheck (errors.Refutation e) = Unit {0}
-IsOfCheck (errors.Solution e) = ⊥
-
 -- of the question and a solver's answer: a witness is made only where it shows a bad state, so that
 -- none is refused
 abbrev pub IsOfWitness : BoundedAnswerError → Type 0
@@ -116,37 +107,6 @@ abbrev pub TellsOfSize : ℕ → (Circuit → ℕ) → Option (List ℕ) → Opt
 TellsOfSize limit bound old new (errors.Question TooLarge) =
     IsReadAs (IsAskedWithin limit) (λ f u. limit < bound (circuit_of f)) old new (tt {0})
 TellsOfSize limit bound old new e = Unit {0}
-
--- ---- a proof's bytes
-
--- it is what the bytes of a proof show of the clauses
-abbrev pub ShowsProof : BoundedClauses → Option (List ℕ) → Result Unit BoundedAnswerError → Type 0
-ShowsProof made text (Ok done) =
-    Shows (length made.clauses) (clauses_in made.clauses ++ made.extra) text (Ok tt)
-ShowsProof made text (Err (errors.Refutation e)) =
-    Shows (length made.clauses) (clauses_in made.clauses ++ made.extra) text (Err e)
-ShowsProof made text (Err e) = ⊥
-
--- A question that is settled needs no proof, and none is read; of any other it is told what the
--- proof shows. The proof is p before, and rest after it.
-pub record TellsOfProof {P : Type 0} (left : P → Option (List ℕ)) (made : BoundedClauses)
-    (p rest : P) (result : Result Unit BoundedAnswerError) : Type 0 where
-  pub settled : IsSettled made → (result ≡ Ok tt) × (rest ≡ p)
-  pub shown : ¬ IsSettled made → ShowsProof made (left p) result
-
--- the circuit has a question, and it is told so of the clauses of each: of those that any call
--- gives or prints, as there is one (`circuit_questions_are_one`)
-abbrev pub AnswersCircuit : {P : Type 0} → (P → Option (List ℕ)) → ℕ → Bool → P → P → Circuit
-    → Result Unit BoundedAnswerError → Type 0
-AnswersCircuit left k optimize p rest c result =
-    ((made : BoundedClauses) × AsksOfBads c k optimize made)
-    × ((made : BoundedClauses) → AsksOfBads c k optimize made
-    → TellsOfProof left made p rest result)
-
--- so of a file's circuit (`bounded_clauses_are_one`)
-abbrev pub AnswersProof : {P : Type 0} → (P → Option (List ℕ)) → ℕ → Bool → P → P → File
-    → Result Unit BoundedAnswerError → Type 0
-AnswersProof left k optimize p rest f = AnswersCircuit left k optimize p rest (circuit_of f)
 
 -- ---- a solver's answer
 

@@ -6,11 +6,7 @@ pub mod Naming
 pub mod Solving
 pub mod Said
 pub mod Certificates
-pub mod Comparing
 pub mod PairParts
-pub mod Safety
-pub mod Equality
-pub mod Liveness
 pub mod Plans
-pub mod PlanWords
 pub mod Windows
+pub mod Goals

@@ -167,19 +167,20 @@ HasRoom limit a c = size_of false a c ≤ limit
 abbrev pub first_over : Bool → ℕ → List Question → Circuit → Option ℕ
 first_over plain limit plan c = position (λ q. nat_lt limit (size_of plain q.ask c)) plan
 
--- The verdict on a circuit, by its tests in their order: the first question whose nodes may pass
--- the limit, and whether the circuit's own do; whether there is no bad edge; and the first question
+-- The verdict on a circuit, by its tests in their order: whether it has more nodes than the limit;
+-- the first question whose nodes may pass it; whether there is no bad edge; and the first question
 -- that is crowded.
-abbrev pub room_by : Option ℕ → Bool → Bool → Option ℕ → Result Unit PlanError
-room_by (Some i) many none crowded = Err (if many then errors.TooMany else errors.TooLarge i)
-room_by None many true crowded = Err errors.NoBads
-room_by None many false (Some i) = Err (errors.Crowded i)
-room_by None many false None = Ok tt
+abbrev pub room_by : Bool → Option ℕ → Bool → Option ℕ → Result Unit PlanError
+room_by true large none crowded = Err errors.TooMany
+room_by false (Some i) none crowded = Err (errors.TooLarge i)
+room_by false None true crowded = Err errors.NoBads
+room_by false None false (Some i) = Err (errors.Crowded i)
+room_by false None false None = Ok tt
 
 -- the verdict on a circuit of which a plan is asked
 abbrev pub room_of : ℕ → List Question → Circuit → Result Unit PlanError
 room_of limit plan c =
-    room_by (first_over true limit plan c) (nat_lt limit (length c.nodes))
+    room_by (nat_lt limit (length c.nodes)) (first_over true limit plan c)
     (length c.properties.bads == 0) (first_over false limit plan c)
 
 -- What an answer about a circuit tells: how the plan is answered where there is room for it, or why

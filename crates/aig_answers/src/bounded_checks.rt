@@ -1,7 +1,6 @@
 //! Bounded checks of the machines of AIGER files, from bytes: the clauses of one question, and proofs and
 //! solutions of them.
 
-mod checking;
 mod clauses;
 mod error;
 mod laws;
@@ -10,9 +9,8 @@ mod simulating;
 mod solving;
 mod values;
 
-pub use checking::{check_bounded, check_bounded_of};
+pub use clauses::BoundedClauses;
 pub(crate) use clauses::ask_circuit;
-pub use clauses::{BoundedClauses, bounded};
 pub use error::BoundedAnswerError;
 pub use laws::{
     bounded_clauses_are_one, circuit_questions_are_one, refuted_circuit_questions_are_safe,

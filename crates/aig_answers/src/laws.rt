@@ -4,7 +4,7 @@ ghost use Rattle.std.specs.Prelude.{◌+◌, ◌++◌, ◌↔◌, ℕ, Bool, IsT
 ghost use Rattle.std.specs.List.{list_any};
 ghost use Rattle.aig_base.specs.Formula.{IsSatisfiable, clauses_in};
 ghost use Rattle.aig_base.specs.declared.logic.literal.Lit.{Lit};
-ghost use Rattle.aig_answers.specs.Answers.{IsCircuitQuery, TellsOfCircuit, TellsOfCircuitWindow, TellsOfProof};
+ghost use Rattle.aig_answers.specs.Answers.{IsCircuitQuery, TellsOfCircuit, TellsOfProof};
 ghost use Rattle.aig_answers.specs.declared.circuits.CircuitQuery.{CircuitQuery};
 ghost use Rattle.aig_answers.specs.declared.error.AnswerError.{AnswerError};
 ghost use Rattle.aig_circuit.specs.Circuit.{Circuit};
@@ -18,7 +18,7 @@ ghost use Rattle.aig_runs.specs.WindowClauses.{AsksWindow};
 ghost use Rattle.aig_runs.specs.declared.window.Window.{Window};
 
 use aig_cnf::clauses_are_one;
-use aig_runs::{refuted_windows_are_inductive, windows_are_one};
+use aig_runs::refuted_windows_are_inductive;
 
 /// Law: the clauses that ask for a window of a file's machine can be satisfied exactly where there is a run of `k + 2` steps,
 /// from any state, that is a window of the form and has a bad literal at its last step. Some bad literal holds exactly where
@@ -36,19 +36,13 @@ pub fn windows_are_asked()
     refuted_windows_are_inductive();
 }
 
-/// Law: what the text of a proof shows of the clauses of a circuit's query, or of its window, it shows of those that any call
-/// makes: for each circuit, each number of steps and each setting there is one list of them.
+/// Law: what the text of a proof shows of the clauses of a circuit's query it shows of those that any call makes: for each circuit, each
+/// number of steps and each setting there is one list of them.
 pub fn circuit_clauses_are_one()
     ensures query { (c : Circuit) (k : ℕ) (optimize : Bool) (text : Option (List ℕ))
         (answer : Result (Unit {0}) AnswerError) (q : CircuitQuery)
         → IsCircuitQuery c k optimize q → TellsOfProof q.clauses q.extra text answer
         → TellsOfCircuit k optimize text c answer }
-    ensures window { (form : Window) (c : Circuit) (k : ℕ) (optimize : Bool)
-        (text : Option (List ℕ)) (answer : Result (Unit {0}) AnswerError)
-        (lists : List (List (List Lit))) (extra : List (List Lit))
-        → AsksWindow form c k optimize lists extra → TellsOfProof lists extra text answer
-        → TellsOfCircuitWindow form k optimize text c answer }
 {
     clauses_are_one();
-    windows_are_one();
 }

@@ -8,11 +8,11 @@ mod laws;
 mod room;
 
 pub use asking::{Ask, Question};
-pub(crate) use checking::check_last;
 pub use checking::{check_circuit, check_question};
-pub use clauses::clauses_of;
-pub(crate) use errors::{answer, bounded_answer};
+pub use clauses::{clauses_of, first_question};
 pub use errors::{PlanError, Refused, Why};
 pub use laws::{
-    command_plans_cover, covering_plans_are_safe, question_clauses_are_one, refuted_asks_hold,
+    command_plans_cover, covering_plans_are_safe, plans_have_room, question_clauses_are_one,
+    refuted_asks_hold,
 };
+pub use room::check_room;

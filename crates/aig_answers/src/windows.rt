@@ -1,30 +1,21 @@
 //! Windows of steps that keep a machine safe.
 
-ghost use Rattle.std.specs.Prelude.{◌≡◌, ◌≢◌, ◌+◌, ◌*◌, ◌≤◌, ◌<◌, ◌^◌, ◌↔◌, ◌++◌, [], IfErr, IfOk, IsErrOf, IsTrue, OnOk, false, length, map, replicate, ℕ};
-ghost use Rattle.aig_answers.specs.Answers.{IsAsked, IsOfInduction, IsOfWindow, IsSaidBy, IsUnrolledWindow, TellsOfWindow, circuit_window_verdict, verdict_of, window_size, window_verdict};
+ghost use Rattle.std.specs.Prelude.{◌≡◌, ◌≢◌, ◌+◌, ◌*◌, ◌≤◌, ◌<◌, ◌^◌, ◌↔◌, ◌++◌, [], IfOk, IsTrue, OnOk, false, length, map, replicate, ℕ};
+ghost use Rattle.aig_answers.specs.Answers.{IsUnrolledWindow, window_size};
 ghost use Rattle.aig_answers.specs.Windows.{IsSteppedWindow};
 ghost use Rattle.aig_base.specs.Clauses.{AreRelations};
-ghost use Rattle.aig_runs.specs.Induction.{IsKInductive};
 ghost use Rattle.aig_runs.specs.WindowClauses.{AsksWindow, count_free, states_clauses, watched, window_clauses};
 ghost use Rattle.aig_circuit.specs.Circuit.{Circuit, IsCircuit, latch_leaves};
 ghost use Rattle.aig_circuit.specs.Edge.{edge_to};
 ghost use Rattle.aig_circuit.specs.View.{lists_circuit};
-ghost use Rattle.aig_reader.specs.Reading.{IsReadAs};
-ghost use Rattle.aig_reader.specs.Verdicts.{Accepted, Judges, verdict_by};
-ghost use Rattle.aig_format.specs.Circuit.{circuit_of};
 ghost use Rattle.aig_unroll.specs.Unroll.{UnrollsTo};
 
-use crate::asks::check_asks;
 use crate::clauses::induction_between;
 use crate::distinct::{pairs_of, push_distinct};
-use crate::error::AnswerError;
-use crate::plans::{Ask, Question, answer, check_last};
-use aig_base::{DagCnf, LitVvec, MemoryError, Source};
+use aig_base::{DagCnf, LitVvec, MemoryError};
 use aig_circuit::{AigEdge, AigLatch, CircuitLists, CircuitView};
 use aig_cnf::{NeededGates, clauses_are_one, clauses_fix_roots, encode, find_needed};
-use aig_reader::read;
-use aig_refutation::RefutationError;
-use aig_runs::{Window, windows_are_one};
+use aig_runs::Window;
 use aig_unroll::{is_size_within, unroll_to};
 use std::alloc::Global;
 
@@ -188,8 +179,14 @@ fn step_window(
     })
 }
 
-/// A circuit's window.
-fn unroll_window(
+/// Gives a circuit `k + 1` steps more, and makes what the clauses are written from that ask for a run of `k + 2` steps, from any state,
+/// on which every constraint holds at each step, no bad state is reached at the steps 0 to `k`, and one is reached at step `k + 1`; in
+/// the distinct form no two of its steps have the same state. No list of the clauses of gates is made. The one error is refused memory.
+///
+/// The window clauses are, in order: for each constraint of each step that it holds, for each bad literal of the steps 0 to
+/// `k` that it doesn't, one clause of those of step `k + 1`, and in the distinct form, for each pair of steps, that some
+/// latch differs. Without latches no two steps differ, and one empty clause says so of all pairs.
+pub fn unroll_window(
     alloc: Global,
     circuit: CircuitLists,
     k: usize,
@@ -216,92 +213,6 @@ fn unroll_window(
         needed,
         extra,
     })
-}
-
-/// Refuses a circuit whose window of `k + 2` steps may pass the limit, and one without bad edges, of which nothing is asked.
-///
-/// # Errors
-///
-/// - `Encode(TooLarge)`: the bound of the circuit with `k + 1` further steps passes the limit.
-/// - `NoBads`: there is no bad edge.
-/// - `TooLarge`: with the variables that tell states apart it passes the limit.
-pub fn check_window_room(
-    circuit: &CircuitView<'_>,
-    limit: usize,
-    k: usize,
-    form: Window,
-) -> Result<(), AnswerError>
-    requires { k < 2 ^ 32 }
-    ensures said { verdict_by verdict_of result ≡ circuit_window_verdict form limit k circuit.now }
-    ensures own { IfErr result IsOfWindow }
-{
-    check_asks(
-        circuit.nodes(),
-        circuit.latchs(),
-        circuit.bads(),
-        limit,
-        k + 1,
-    )?;
-    if !has_room(circuit, k, form, limit) {
-        return Err(AnswerError::TooLarge);
-    }
-    Ok(())
-}
-
-/// A circuit's window, unless it may pass the limit.
-fn ask_window(
-    alloc: Global,
-    circuit: CircuitLists,
-    limit: usize,
-    k: usize,
-    optimize: bool,
-    form: Window,
-) -> Result<UnrolledWindow, AnswerError>
-    requires few { limit ≤ 2 ^ 31 }
-    requires steps { k < 2 ^ 32 }
-    requires circuit { IsCircuit (lists_circuit circuit) }
-    ensures asks { IfOk result (IsUnrolledWindow form (lists_circuit circuit) k optimize) }
-    ensures said { IsSaidBy (circuit_window_verdict form limit k (lists_circuit circuit))
-        (verdict_by verdict_of result) }
-    ensures own { IfErr result IsOfWindow }
-{
-    check_window_room(&CircuitView::new(&circuit), limit, k, form)?;
-    Ok(unroll_window(alloc, circuit, k, optimize, form)?)
-}
-
-/// Reads a circuit from the bytes of an AIGER file, gives it `k + 1` steps more, and makes what the clauses are written from that ask
-/// for a run of `k + 2` steps, from any state, on which every constraint holds at each step, no bad state is reached at the steps 0
-/// to `k`, and one is reached at step `k + 1`; in the distinct form no two of its steps have the same state. No list of the clauses
-/// of gates is made.
-///
-/// The window clauses are, in order: for each constraint of each step that it holds, for each bad literal of the steps 0 to
-/// `k` that it doesn't, one clause of those of step `k + 1`, and in the distinct form, for each pair of steps, that some
-/// latch differs. Without latches no two steps differ, and one empty clause says so of all pairs.
-///
-/// `AnswerError::TooLarge` is answered, before any step, exactly where in the distinct form
-/// `n + (k + 1) * (n - 1 - l) + (k + 1) * (k + 2) / 2 * l` passes the limit, for the `n` nodes and `l` latches of the
-/// circuit, and the bound of its further steps, without the last summand, doesn't. Requires `1 <= limit <= 2^31`.
-pub fn read_window<R: Source>(
-    alloc: Global,
-    r: &mut R,
-    limit: usize,
-    k: usize,
-    optimize: bool,
-    form: Window,
-) -> Result<UnrolledWindow, AnswerError>
-    requires some { 1 ≤ limit }
-    requires few { limit ≤ 2 ^ 31 }
-    requires steps { k < 2 ^ 32 }
-    // The bytes that were read are a file within the limit, with a bad literal, and it is that file's window.
-    ensures answer { IfOk result (IsReadAs (IsAsked limit (k + 1))
-        (λ f. IsUnrolledWindow form (circuit_of f) k optimize) (R.left r.old) (R.left r.new)) }
-    // Each such file whose window has room is answered, and a refusal says why.
-    ensures verdict { Judges (window_verdict form limit k) limit (R.left r.old) (R.left r.new)
-        (R.failed r.new) (verdict_by verdict_of result) }
-    ensures own { IfErr result IsOfWindow }
-{
-    let circuit = read(alloc, r, limit)?;
-    ask_window(alloc, circuit, limit, k, optimize, form)
 }
 
 /// Adds free variables behind those of clauses.
@@ -346,44 +257,4 @@ pub(crate) fn window_clauses(
     tell_relations(&clauses);
     add_free(&mut clauses, free)?;
     Ok(WindowClauses { clauses, extra })
-}
-
-/// Reads a circuit from the bytes of an AIGER file, and checks a proof, in the LRAT or the DRAT format, that the clauses of
-/// `read_window` can't be satisfied: then no window of `k + 2` steps, from any state, reaches a bad state first at its end.
-///
-/// With `check_step` for the steps 0 to `k` it follows that no bad state is ever reached (`inductive_windows_are_safe`).
-pub fn check_window<R: Source, P: Source>(
-    alloc: Global,
-    r: &mut R,
-    limit: usize,
-    k: usize,
-    optimize: bool,
-    form: Window,
-    proof: &mut P,
-) -> Result<(), AnswerError>
-    requires some { 1 ≤ limit }
-    requires few { limit ≤ 2 ^ 31 }
-    requires steps { k < 2 ^ 32 }
-    ensures answer { IfOk result (IsReadAs (IsAsked limit (k + 1)) (λ f _. IsKInductive form f k)
-        (R.left r.old) (R.left r.new)) }
-    // A file is refused exactly where it isn't within the limit, has no bad literal or has no room, and a refusal says why.
-    ensures verdict { Judges (window_verdict form limit k) limit (R.left r.old) (R.left r.new)
-        (R.failed r.new) (verdict_by verdict_of result) }
-    ensures own { IfErr result IsOfInduction }
-    ensures unread { verdict_by verdict_of result ≢ Accepted → proof.new ≡ proof.old }
-    // Of a file that is taken, the answer is what the text of the proof shows of the window's clauses, as every call prints them.
-    ensures shown { verdict_by verdict_of result ≡ Accepted → IsReadAs (IsAsked limit (k + 1))
-        (TellsOfWindow form k optimize (P.left proof.old)) (R.left r.old) (R.left r.new) result }
-    // Stream only where a read failed in this call.
-    ensures proof_stream { IsErrOf result (AnswerError.Refutation RefutationError.Stream)
-        → IsTrue (P.failed proof.new) }
-{
-    windows_are_one();
-    let circuit = read(alloc, r, limit)?;
-    check_window_room(&CircuitView::new(&circuit), limit, k, form)?;
-    let question = Question {
-        ask: Ask::Window(k, form),
-        optimize,
-    };
-    answer(check_last(alloc, circuit, limit, question, proof))
 }

@@ -1,45 +1,48 @@
 -- What commands printed of files whose bytes are known.
-use Rattle.aig_base.proofs.Words.{◌≡◌, ℕ, Bool, List, [], Option, Some, Result, Ok, IfSome, refl, sym, subst}
+use Rattle.aig_base.proofs.Words.{◌≡◌, ℕ, Bool, List, [], ◌∷◌, None, Option, Some, Result, Ok, refl, sym, subst}
 use Rattle.aig_format.specs.File.{File}
 use Rattle.aig_format.specs.Fits.{Accepts}
-use Rattle.aig_reader.specs.Verdicts.{Accepted, IsVerdictOn, Verdict}
+use Rattle.aig_reader.specs.Verdicts.{Verdict}
 use Rattle.aig_tool_commands.specs.declared.command.Command.{Command}
 use Rattle.aig_tool_commands.specs.Running as running
 use Rattle.aig_edits.specs.Pairs.{ReadsPair}
-use Rattle.aig_check_commands.specs.declared.command.FileCommand.{FileCommand}
-use Rattle.aig_check_commands.specs.Running.{Answers, IsAskedBy, Runs, file_verdict}
+use Rattle.aig_answers.specs.declared.plans.asking.Question.{Question}
+use Rattle.aig_circuit.specs.Circuit.{Circuit}
+use Rattle.aig_check_commands.specs.Questions.{IsQuestionText, RunsQuestion}
+use Rattle.aig_answers.specs.Plans.{room_of}
+use Rattle.aig_subjects.specs.declared.subject.FileSubject.TheVariants.{Own}
+use Rattle.aig_check_commands.specs.Sums.{IsSum}
+use Rattle.aig_format.specs.Circuit.{circuit_of}
+use Rattle.sha2.specs.Sha256.{sha256}
 use Rattle.aig_check_commands.proofs.Outcomes.{text_of_printed}
 use Rattle.aig_callers.proofs.Asking.{all_taken}
 use Rattle.aig_callers.proofs.Text.{all_held}
 
-module _ {R P W : Type 0} (left : R → Option (List ℕ)) (read_failed : R → Bool) (given : P
-    → Option (List ℕ)) (given_failed : P → Bool) (held : W → Option (List ℕ)) (write_failed : W
-    → Bool) (c : FileCommand) (limit : ℕ) (r rest : R) (p used : P) (w made : W)
+module _ {R W : Type 0} (left : R → Option (List ℕ)) (failed : R → Bool) (held : W
+    → Option (List ℕ)) (write_failed : W → Bool) (q : Question) (limit : ℕ) (r rest : R) (w made : W)
     (bytes out : List ℕ) where
-  -- the file that the bytes are, which is taken, and what was printed is the answer to it
+  -- the file that the bytes are, of which the question was printed
   pub printed : (u : Unit {0})
-      → Runs left read_failed given given_failed held write_failed c limit r p w (Ok u) rest used
-      made
+      → RunsQuestion left failed held write_failed limit Own q r w (Ok u) rest made
       → left r ≡ Some bytes → held w ≡ Some [] → held made ≡ Some out
-      → (f : File) × IsAskedBy c limit bytes f
-      × ((Accepts bytes limit f → file_verdict c limit f ≡ Accepted)
-      × Answers c (given p) (Some bytes) f out)
+      → (f : File) × Accepts bytes limit f × (room_of limit (q ∷ []) (circuit_of f) ≡ Ok tt)
+      × IsQuestionText q (circuit_of f) (sha256 bytes) out
   printed u runs is empty all =
       let answer = text_of_printed runs in
       let told = answer.1 in
-      let read = told.text in
+      let read = told.answer refl in
       let taken = all_taken bytes read.bytes (left r) (left rest) is read.taken
       (told.verdict.whole tt).1 in
       let same : out ≡ answer.0 = all_held (held w) (held made) out answer.0 empty all answer.2 in
-      let on = subst (λ known. IfSome known (λ b. IsVerdictOn (file_verdict c limit) limit b
-      Accepted)) is (told.verdict.exact tt) in (
+      let means = read.means in
+      let sum : means.2.0 ≡ sha256 bytes = subst (λ known. IsSum known means.2.0) is means.2.1 in
+      let of = means.1 in (
         read.file,
-        subst (λ b. IsAskedBy c limit b read.file) taken read.holds,
-        (
-          (λ accepts. sym (on.each read.file accepts)),
-          subst (Answers c (given p) (Some bytes) read.file) (sym same)
-              (subst (λ old. Answers c (given p) old read.file answer.0) is read.means),
-        ),
+        subst (λ b. Accepts b limit read.file) taken read.holds,
+        subst (λ (m : Circuit). room_of limit (q ∷ []) m ≡ Ok tt) of means.2.2.0,
+        subst (λ (m : Circuit). IsQuestionText q m (sha256 bytes) out) of
+            (subst (λ s. IsQuestionText q means.0 s out) sum
+            (subst (IsQuestionText q means.0 means.2.0) (sym same) means.2.2.1)),
       )
 
 -- ---- two files

@@ -1,10 +1,19 @@
 -- What the contract of `aigcheck` says of words and files that are known.
 use Rattle.aig_base.proofs.Words.{◌≡◌, ℕ, ◌+◌, ◌^◌, ◌<◌, ◌≤◌, Bool, true, false, not, IsTrue, List, [], ◌∷◌, ◌++◌, inl, inr, length, length-append, Option, None, Some, Result, Ok, Err, IfOk, Appends, IsAtEnd, refl, sym, ap, subst, ◌∙◌, arith, ◌==◌, false≢true, codes}
-use Rattle.std.specs.Prelude.{decimal, slice_index}
+use Rattle.std.specs.Prelude.{decimal, replicate, slice_index, take}
 use Rattle.std.proofs.lemmas.Fmt.{decimal_digit}
 use Rattle.aig_format.specs.File.{File}
 use Rattle.aig_format.specs.Fits.{Accepts}
 use Rattle.aig_format.specs.Text.{IsNumber}
+use Rattle.aig_answers.specs.Goals as showing
+use Rattle.aig_answers.specs.Goals.{ChecksGoal, TellsOfGoal}
+use Rattle.aig_answers.specs.declared.goals.error.GoalFault.{GoalFault}
+use Rattle.aig_answers.specs.declared.goals.goal.Goal.{Goal}
+use Rattle.aig_reader.specs.Verdicts.{Accepted, Verdict}
+use Rattle.aig_subjects.specs.Reads.{AreReadAs}
+use Rattle.aig_subjects.specs.Subjects.{file_count}
+use Rattle.aig_subjects.specs.declared.subject.Subject.{Subject}
+use Rattle.aig_subjects.specs.declared.subject.Subject.TheVariants as subjects
 use Rattle.aig_join.specs.declared.comparison.Constraints.TheVariants.{OfBoth}
 use Rattle.aig_join.specs.declared.starts.Matching.TheVariants.{ByName, ByOrder}
 use Rattle.aig_join.specs.declared.starts.Starts.{Starts}
@@ -22,27 +31,21 @@ use Rattle.aig_check_commands.specs.declared.command.Command.{Command}
 use Rattle.aig_check_commands.specs.declared.command.Command.TheVariants as commands
 use Rattle.aig_check_commands.specs.declared.command.FileCommand.{FileCommand}
 use Rattle.aig_check_commands.specs.declared.command.FileCommand.TheVariants as on_file
-use Rattle.aig_check_commands.specs.declared.command.PairCommand.{PairCommand}
-use Rattle.aig_check_commands.specs.declared.command.PairCommand.TheVariants as on_pair
 use Rattle.aig_check_commands.specs.declared.justice.Justice.{Justice}
 use Rattle.aig_check_commands.specs.declared.error.CheckError.{CheckError}
-use Rattle.aig_check_commands.specs.Acting.{Acts, RanBy, RanOn}
-use Rattle.aig_check_commands.specs.CommandWords.{AreCommand, FitNone, IsAlone, IsCall, IsWhole, command_of, equal_name, form_of, name_of, paths_of, prints, raw_alone, raw_word}
+use Rattle.aig_check_commands.specs.Acting.{Acts, RanAll, RanOn}
+use Rattle.aig_check_commands.specs.CommandWords.{AreCommand, FitNone, IsAlone, IsCall, IsWhole, command_of, equal_name, form_of, name_of, path_count, paths_of, prints, raw_alone, raw_word}
 use Rattle.aig_check_commands.specs.Inputs.{Ran}
-use Rattle.aig_check_commands.specs.Justice.{AreJustice, is_asked}
-use Rattle.aig_check_commands.specs.Checked.{RunsGoal}
-use Rattle.aig_check_commands.specs.Goals as showing
-use Rattle.aig_check_commands.specs.Goals.{line_of, no_run_line}
-use Rattle.aig_check_commands.specs.Living.{MeansMade}
-use Rattle.aig_check_commands.specs.declared.goals.Goal.{Goal}
+use Rattle.aig_check_commands.specs.Justice.{AreJustice, is_asked, made_for, subject_of}
+use Rattle.aig_check_commands.specs.Checked.{RunsGoal, answer_of}
+use Rattle.aig_check_commands.specs.Goals.{line_of, no_run_line, safe_line}
+use Rattle.aig_check_commands.specs.Living.{MeansMade, RanMade}
 use Rattle.aig_edit_laws.specs.Fair.{HasFairRun}
 use Rattle.aig_check_commands.specs.Opening.{AreOpened, OnOpening, OpensAll, unopened}
-use Rattle.aig_check_commands.specs.Pairs.{PairAnswers, RunsPair, safe_line}
-use Rattle.aig_check_commands.specs.Running.{IsAskedBy, nothing_fails, nothing_given}
+use Rattle.aig_check_commands.specs.Running.{Answers, IsAskedBy}
 use Rattle.aig_check_commands.proofs.Outcomes.{text_of_printed}
-use Rattle.aig_callers.specs.Instances.{AreNamed, IsOf, Shows, ShowsAsked}
+use Rattle.aig_callers.specs.Instances.{AreFilesOf, AreNamed, IsOf, Shows, ShowsAsked, ShowsGoal}
 use Rattle.aig_callers.proofs.Asking.{all_taken}
-use Rattle.aig_callers.proofs.Answered.{both_read, printed}
 use Rattle.aig_callers.proofs.Text.{all_held}
 
 -- ---- files
@@ -50,11 +53,8 @@ use Rattle.aig_callers.proofs.Text.{all_held}
 -- a file that a command asks about is one within the limit
 asked_file : (c : FileCommand) (bytes : List ℕ) (f : File) → IsAskedBy c (2 ^ 24) bytes f
     → Accepts bytes (2 ^ 24) f
-asked_file (on_file.Clauses k optimize) bytes f is = is.0.0
-asked_file (on_file.Window k form optimize) bytes f is = is.0.0
 asked_file (on_file.Witness k optimize) bytes f is = is.0.0
 asked_file on_file.Run bytes f is = is
-asked_file (on_file.Bounded k optimize) bytes f is = is.0
 asked_file (on_file.WitnessTo k optimize) bytes f is = is.0
 
 module _ {F : Type 0} (opens : List ℕ → Result F OpenError → Type 0) where
@@ -74,6 +74,32 @@ module _ {F : Type 0} (opens : List ℕ → Result F OpenError → Type 0) where
       by more (Ok f) is leads = let rest = more f leads in (f ∷ rest.0, (is, rest.1), rest.2)
       by more (Err e) is leads = absurd (never (unopened e) leads)
 
+module _ {F T : Type 0} (left : F → Option (List ℕ)) (failed : F → Bool) (value : T) where
+  -- these files are read
+  abbrev Read : (List File → T → Type 0) → List Verdict → List F → List F → Type 0
+  Read Means said before after = AreReadAs left failed (2 ^ 24) Means said before after value
+
+  -- the first of them is what its bytes are, where these are known
+  first_read : (bytes : List ℕ) (Means : List File → T → Type 0) (said : List Verdict) (r : F)
+      (before after : List F) → left r ≡ Some bytes
+      → Read Means (Accepted ∷ said) (r ∷ before) after
+      → IsOf bytes (λ f. (rest : List F) × Read (λ files. Means (f ∷ files)) said before rest)
+  first_read bytes Means said r before [] is read = absurd read
+  first_read bytes Means said r before (rest ∷ after) is (told, read) = (
+    read.file,
+    subst (λ b. Accepts b (2 ^ 24) read.file)
+        (all_taken bytes read.bytes (left r) (left rest) is read.taken (told.whole tt).1)
+        read.holds,
+    (after, read.means),
+  )
+
+  -- the last is some file
+  last_read : (Means : List File → T → Type 0) (before after : List F)
+      → Read Means (Accepted ∷ []) before after → (f : File) × Means (f ∷ []) value
+  last_read Means [] after read = absurd read
+  last_read Means (r ∷ before) [] read = absurd read
+  last_read Means (r ∷ before) (rest ∷ after) (told, read) = (read.file, read.means.0)
+
 -- ---- what was printed
 
 module _ {F W : Type 0} (file other : List ℕ) (left : F → Option (List ℕ)) (failed : F → Bool)
@@ -83,6 +109,58 @@ module _ {F W : Type 0} (file other : List ℕ) (left : F → Option (List ℕ))
   OpensFiles path opened = IfOk opened (λ source.
       (path ≡ codes "FILE" → left source ≡ Some file)
       × (path ≡ codes "OTHER" → left source ≡ Some other))
+
+  -- the file beside FILE is OTHER, where there are two
+  abbrev Beside : ℕ → List F → Type 0
+  Beside count [] = Unit {0}
+  Beside count (s ∷ files) = count ≡ 2 → left s ≡ Some other
+
+  no_beside : (count : ℕ) (files : List F) → count ≡ 1 → Beside count files
+  no_beside count [] one = tt
+  no_beside count (s ∷ files) one = λ two. absurd (omega (arith, one, two))
+
+  -- the files of a subject are what the bytes are
+  files_read : {T : Type 0} (value : T) (Means : List File → T → Type 0)
+      (Holds : List File → Type 0) → ((fs : List File) → Means fs value → Holds fs)
+      → (subject : Subject) (r : F) (files after : List F) → left r ≡ Some file
+      → Beside (path_count subject) files
+      → AreReadAs left failed (2 ^ 24) Means (replicate (file_count subject) Accepted)
+      (take (file_count subject) (r ∷ files)) after value
+      → AreFilesOf subject file other Holds
+  files_read value Means Holds so (subjects.File own) r files after is beside read =
+      let one = first_read left failed value file Means [] r [] after is read in
+      (one.0, one.1, so (one.0 ∷ []) one.2.1.0)
+  files_read value Means Holds so (subjects.Miter comparison) r [] after is beside read =
+      absurd
+      (first_read left failed value file Means (Accepted ∷ []) r [] after is read).2.1
+  files_read value Means Holds so (subjects.Miter comparison) r (s ∷ files) after is beside read =
+      let one = first_read left failed value file Means (Accepted ∷ []) r (s ∷ []) after is read in
+      let two = first_read left failed value other (λ fs. Means (one.0 ∷ fs)) [] s [] one.2.0
+      (beside refl) one.2.1 in
+      (one.0, one.1, (two.0, two.1, so (one.0 ∷ two.0 ∷ []) two.2.1.0))
+  files_read value Means Holds so (subjects.Certified own) r [] after is beside read =
+      absurd
+      (first_read left failed value file Means (Accepted ∷ []) r [] after is read).2.1
+  files_read value Means Holds so (subjects.Certified own) r (s ∷ files) after is beside read =
+      let one = first_read left failed value file Means (Accepted ∷ []) r (s ∷ []) after is read in
+      let two = first_read left failed value other (λ fs. Means (one.0 ∷ fs)) [] s [] one.2.0
+      (beside refl) one.2.1 in
+      (one.0, one.1, (two.0, two.1, so (one.0 ∷ two.0 ∷ []) two.2.1.0))
+  files_read value Means Holds so (subjects.MiterCertified comparison) r [] after is beside read =
+      absurd
+      (first_read left failed value file Means (Accepted ∷ Accepted ∷ []) r [] after is read).2.1
+  files_read value Means Holds so (subjects.MiterCertified comparison) r (s ∷ files) after is beside
+      read =
+      let one = first_read left failed value file Means (Accepted ∷ Accepted ∷ []) r
+      (s ∷ take 1 files) after is read in
+      let two = first_read left failed value other (λ fs. Means (one.0 ∷ fs)) (Accepted ∷ []) s
+      (take 1 files) one.2.0 (beside refl) one.2.1 in
+      let three = last_read left failed value (λ fs. Means (one.0 ∷ two.0 ∷ fs)) (take 1 files)
+      two.2.0 two.2.1 in (
+        one.0,
+        one.1,
+        (two.0, two.1, (three.0, so (one.0 ∷ two.0 ∷ three.0 ∷ []) three.1)),
+      )
 
   module _ (w made : W) (out : List ℕ) (empty : held w ≡ Some []) (all : held made ≡ Some out)
     where
@@ -98,129 +176,133 @@ module _ {F W : Type 0} (file other : List ℕ) (left : F → Option (List ℕ))
       read_of r rest is accepts read end =
           let taken = all_taken file read.bytes (left r) (left rest) is read.taken end in (
             read.file,
-            subst (λ b. Accepts b (2 ^ 24) read.file) taken (accepts read.bytes read.file read.holds),
+            subst (λ b. Accepts b (2 ^ 24) read.file) taken
+                (accepts read.bytes read.file read.holds),
             read.means,
           )
 
-      -- the answer to two files is so of them
-      pair_told : (c : PairCommand) (base step bytes others : Option (List ℕ)) (f g : File)
-          (text : List ℕ) → PairAnswers c (2 ^ 24) base step bytes others f g text
-          → Accepts file (2 ^ 24) f → Accepts other (2 ^ 24) g → out ≡ text
-          → Shows (commands.Pair c) file other out
-      pair_told (on_pair.Certified optimize) base step bytes others f g text answers one two is =
-          (f, one, (is ∙ answers.0, answers.1.0.1))
-      pair_told (on_pair.Equal comparison k optimize) base step bytes others f g text answers one two
-          is =
-          (f, one, (g, two, (is ∙ answers.0, answers.1.0.1)))
-      pair_told (on_pair.Obligations optimize) base step bytes others f g text answers one two is = tt
-      pair_told (on_pair.AlwaysEqual comparison k form o y) base step bytes others f g text answers one
-          two is =
-          (f, one, (g, two, (is ∙ answers.0, answers.1.0.1)))
-
-      pair_shown : {P Q : Type 0} {given : P → Option (List ℕ)} {given_failed : P → Bool}
-          {step : Q → Option (List ℕ)} {step_failed : Q → Bool} (c : PairCommand) (r rest s beside : F)
-          (p used : P) (q spent : Q) (u : Unit {0}) → left r ≡ Some file → left s ≡ Some other
-          → RunsPair left failed left failed given given_failed step step_failed held write_failed c
-          (2 ^ 24) r s p q w (Ok u) rest beside used spent made
-          → Shows (commands.Pair c) file other out
-      pair_shown c r rest s beside p used q spent u is also ran =
-          let told = text_of_printed ran in
-          let both = both_read left failed left failed (2 ^ 24) _ _ _ _ r rest s beside file other
-          told.0 told.1.reads is also in
-          pair_told c _ _ _ _ both.0 both.1 told.0 both.4 both.2 both.3 (whole told.0 told.2)
-
-      -- the file beside FILE is OTHER, where the command is on two
-      abbrev Beside : Command → List F → Type 0
-      Beside c [] = Unit {0}
-      Beside c (s ∷ files) = paths_of c ≡ 2 → left s ≡ Some other
-
-      no_beside : (c : Command) (files : List F) → paths_of c ≡ 1 → Beside c files
-      no_beside c [] one = tt
-      no_beside c (s ∷ files) one = λ two. absurd (omega (arith, one, two))
-
       -- the line of a goal was written
-      goal_shown : (a : Option Justice) (goal : Goal) (base step : Bool) (r rest : F)
-          (files others : List F) (u : Unit {0}) → left r ≡ Some file
-          → RunsGoal left failed left failed held write_failed (2 ^ 24) a goal base step r files w
-          (Ok u) rest others made
-          → IsOf file (λ f. (out ≡ line_of a goal) × showing.Shows a goal f)
-      goal_shown a goal base step r rest files others u is ran =
+      goal_shown : (subject : Subject) (goal : Goal) (base step : Bool) (r : F)
+          (files after proofs used : List F) (u : Unit {0}) → left r ≡ Some file
+          → Beside (path_count subject) files
+          → RunsGoal left failed left failed held write_failed (2 ^ 24) subject goal base step
+          (take (file_count subject) (r ∷ files)) proofs w (Ok u) after used made
+          → ShowsGoal subject goal file other out
+      goal_shown subject goal base step r files after proofs used u is beside ran =
           let told = text_of_printed ran in
-          let of = read_of r rest is (λ bytes f holds. holds) (told.1.reads.answer refl)
-          (told.1.reads.verdict.whole tt).1 in
-          (of.0, of.1, (whole told.0 told.2 ∙ of.2.0, of.2.1))
+          by told.0 told.1.checked told.1.told told.1.checks told.2
+        where
+          by : (text : List ℕ) (x : Result (Unit {0}) GoalFault)
+              → Ok text ≡ answer_of subject goal x
+              → ChecksGoal left failed left failed (2 ^ 24) subject goal base step
+              (take (file_count subject) (r ∷ files)) proofs x after used
+              → Appends (held w) (held made) text → ShowsGoal subject goal file other out
+          by text (Err e) same checks appends = cc
+          by text (Ok done) same checks appends =
+              let line : text ≡ line_of subject goal = cc in
+              files_read (Ok done)
+              (TellsOfGoal left failed (2 ^ 24) subject goal base step proofs used)
+              (λ fs. (out ≡ line_of subject goal) × showing.Shows subject goal fs)
+              (λ fs tells. (whole text appends ∙ line, tells.0)) subject r files after is beside
+              checks.reads.reads
+
+      -- so it was where a justice property may be asked about
+      check_shown : (a : Option Justice) (subject : Subject) (goal : Goal) (base step : Bool)
+          (r : F) (files after proofs used : List F) (u : Unit {0}) → left r ≡ Some file
+          → Beside (path_count subject) files
+          → RunsGoal left failed left failed held write_failed (2 ^ 24) (subject_of a subject) goal
+          base step (take (file_count subject) (r ∷ files)) proofs w (Ok u) after used made
+          → ShowsGoal (subject_of a subject) goal file other out
+      check_shown None subject goal base step r files after proofs used u is beside ran =
+          goal_shown subject goal base step r files after proofs used u is beside ran
+      check_shown (Some a) (subjects.File own) goal base step r files after proofs used u is beside
+          ran =
+          goal_shown (subjects.File (made_for a)) goal base step r files after proofs used u is
+          beside ran
+      check_shown (Some a) (subjects.Certified own) goal base step r files after proofs used u is
+          beside ran =
+          goal_shown (subjects.Certified (made_for a)) goal base step r files after proofs used u is
+          beside ran
+      check_shown (Some a) (subjects.Miter comparison) goal base step r files after proofs used u is
+          beside ran =
+          goal_shown (subjects.Miter comparison) goal base step r files after proofs used u is
+          beside ran
+      check_shown (Some a) (subjects.MiterCertified comparison) goal base step r files after proofs
+          used u is beside ran =
+          goal_shown (subjects.MiterCertified comparison) goal base step r files after proofs used u
+          is beside ran
 
       ran_shown : (c : Command) (r rest : F) (files others : List F) (u : Unit {0})
-          → left r ≡ Some file → Beside c files
-          → Ran left failed left failed held write_failed (2 ^ 24) c r files w (Ok u) rest others made
+          → left r ≡ Some file
+          → Ran left failed left failed held write_failed (2 ^ 24) c r files w (Ok u) rest others
+          made
           → Shows c file other out
-      ran_shown (commands.File c) r rest [] [] u is beside ran =
-          let told = printed left failed nothing_given nothing_fails held write_failed c (2 ^ 24) r rest
-          tt tt w made file out u ran is empty all in
-          (told.0, asked_file c file told.0 told.1, (nothing_given tt, told.2.1))
-      ran_shown (commands.File c) r rest (p ∷ []) (used ∷ []) u is beside ran =
-          let told = printed left failed left failed held write_failed c (2 ^ 24) r rest p used w made
-          file out u ran is empty all in
-          (told.0, asked_file c file told.0 told.1, (left p, told.2.1))
-      ran_shown (commands.Pair c) r rest (s ∷ []) (next ∷ []) u is beside ran =
-          pair_shown c r rest s next tt tt tt tt u is (beside refl) ran
-      ran_shown (commands.Pair c) r rest (s ∷ p ∷ []) (next ∷ used ∷ []) u is beside ran =
-          pair_shown c r rest s next p used tt tt u is (beside refl) ran
-      ran_shown (commands.Pair c) r rest (s ∷ p ∷ q ∷ []) (next ∷ used ∷ spent ∷ []) u is beside ran =
-          pair_shown c r rest s next p used q spent u is (beside refl) ran
-      ran_shown (commands.Check goal base step) r rest files others u is beside ran =
-          goal_shown None goal base step r rest files others u is ran
-      ran_shown (commands.EqualBy comparison o) r rest (s ∷ c ∷ p ∷ q ∷ [])
-          (next ∷ tried ∷ used ∷ spent ∷ []) u is beside ran =
+      ran_shown (commands.File c) r rest (p ∷ []) (used ∷ []) u is ran =
           let told = text_of_printed ran in
-          let both = both_read left failed left failed (2 ^ 24) _ _ _ _ r rest s next file other told.0
-          told.1.reads is (beside refl) in
-          (both.0, both.2, (both.1, both.3, (whole told.0 told.2 ∙ both.4.0, both.4.1.0.1)))
+          let of = read_of r rest is (asked_file c) told.1.text (told.1.verdict.whole tt).1 in (
+            of.0,
+            of.1,
+            (left p, subst (Answers c (left p) of.0) (sym (whole told.0 told.2)) of.2),
+          )
       ran_shown (commands.Simulated o) r rest (s ∷ a ∷ b ∷ c ∷ d ∷ e ∷ [])
-          (next ∷ a_rest ∷ b_rest ∷ c_rest ∷ d_rest ∷ e_rest ∷ []) u is beside ran =
+          (next ∷ a_rest ∷ b_rest ∷ c_rest ∷ d_rest ∷ e_rest ∷ []) u is ran =
           let of = read_of r rest is (λ bytes f holds. holds) (ran.reads.answer refl refl)
           (ran.reads.verdict.whole tt).1 in
           (of.0, of.1, (whole safe_line of.2.means.1, of.2.means.0.1))
-      ran_shown (commands.Obligation condition o) r rest files others u is beside ran = tt
-      ran_shown c r rest files others u is beside ran = absurd ran
+      ran_shown (commands.Print q) r rest files others u is ran = tt
+      ran_shown (commands.Pair c) r rest files others u is ran = tt
+      ran_shown (commands.Obligation condition o) r rest files others u is ran = tt
+      ran_shown c r rest files others u is ran = absurd ran
 
       -- a line about a justice property was written
       fair_told : (b : Bool) (c : Command) (a : Justice) (files others : List F) (u : Unit {0})
           (f : File) (text : List ℕ) → IsTrue (not b)
-          → MeansMade b left failed held write_failed (2 ^ 24) a.property c files others w made f text
-          (Ok u)
+          → MeansMade b left failed held write_failed (2 ^ 24) a.property c files others w made f
+          text (Ok u)
           → (out ≡ no_run_line a.property) × ¬ HasFairRun f a.property
       fair_told true c a files others u f text checks told = absurd (false≢true checks)
       fair_told false c a files others u f text checks told =
           (whole (no_run_line a.property) told.2, told.1)
 
-      by_shown : (asked : Option Justice) (c : Command) (r rest : F) (files others : List F)
-          (u : Unit {0}) → left r ≡ Some file → Beside c files
-          → RanBy left failed left failed held write_failed (2 ^ 24) asked c r files w (Ok u) rest
+      fair_shown : (a : Justice) (c : Command) (r rest : F) (files others : List F) (u : Unit {0})
+          → left r ≡ Some file → IsTrue (not (prints c))
+          → RanMade left failed left failed held write_failed (2 ^ 24) a c r files w (Ok u) rest
           others made
-          → ShowsAsked (record { justice = asked; command = c }) file other out
-      by_shown None c r rest files others u is beside ran =
-          ran_shown c r rest files others u is beside ran
-      by_shown (Some a) (commands.Check goal base step) r rest files others u is beside ran =
-          λ checks. goal_shown (Some a) goal base step r rest files others u is ran
-      by_shown (Some a) c r rest files others u is beside ran = λ checks.
+          → IsOf file (λ f. (out ≡ no_run_line a.property) × ¬ HasFairRun f a.property)
+      fair_shown a c r rest files others u is checks ran =
           let of = read_of r rest is (λ bytes f holds. holds) (ran.reads.answer refl)
           (ran.reads.verdict.whole tt).1 in
           (of.0, of.1, fair_told (prints c) c a files others u of.0 _ checks of.2.2)
+
+      -- what was done with the files is so of FILE and OTHER
+      all_shown : (a : Option Justice) (c : Command) (r : F) (files others : List F) (u : Unit {0})
+          → left r ≡ Some file → Beside (paths_of c) files
+          → RanAll left failed held write_failed (2 ^ 24) a c (r ∷ files) w (Ok u) others made
+          → ShowsAsked (record { justice = a; command = c }) file other out
+      all_shown None (commands.Check subject goal base step) r files others u is beside ran =
+          check_shown None subject goal base step r files _ _ _ u is beside ran
+      all_shown (Some a) (commands.Check subject goal base step) r files others u is beside ran =
+          λ checks. check_shown (Some a) subject goal base step r files _ _ _ u is beside ran
+      all_shown a c r files [] u is beside ran = absurd ran
+      all_shown None c r files (rest ∷ others) u is beside ran =
+          ran_shown c r rest files others u is ran
+      all_shown (Some a) (commands.Print q) r files (rest ∷ others) u is beside ran =
+          λ checks. absurd (false≢true checks)
+      all_shown (Some a) c r files (rest ∷ others) u is beside ran =
+          λ checks. fair_shown a c r rest files others u is checks ran
 
       on_shown : (c : Asked) (paths further : List (List ℕ)) (files others : List F) (u : Unit {0})
           → AreNamed (paths_of c.command) paths → AreOpened OpensFiles (paths ++ further) files
           → RanOn left failed held write_failed (2 ^ 24) c files w (Ok u) others made
           → ShowsAsked c file other out
-      on_shown c (path ∷ []) further (r ∷ files) (rest ∷ others) u named are ran =
-          by_shown c.justice c.command r rest files others u (are.0.0 named.1)
-          (no_beside c.command files named.0) ran
-      on_shown c (path ∷ next ∷ []) further (r ∷ s ∷ files) (rest ∷ others) u named are ran =
-          by_shown c.justice c.command r rest (s ∷ files) others u (are.0.0 named.0)
+      on_shown c (path ∷ []) further (r ∷ files) others u named are ran =
+          all_shown c.justice c.command r files others u (are.0.0 named.1)
+          (no_beside (paths_of c.command) files named.0) ran
+      on_shown c (path ∷ next ∷ []) further (r ∷ s ∷ files) others u named are ran =
+          all_shown c.justice c.command r (s ∷ files) others u (are.0.0 named.0)
           (λ two. are.1.0.1 named.1) ran
       on_shown c (path ∷ next ∷ []) further (r ∷ []) others u named are ran = absurd are.1
       on_shown c (path ∷ paths) further [] others u named are ran = absurd are
-      on_shown c (path ∷ paths) further (r ∷ files) [] u named are ran = absurd ran
       on_shown c paths further files others u named are ran = absurd named
 
       -- a program that is done has printed it
@@ -230,7 +312,8 @@ module _ {F W : Type 0} (file other : List ℕ) (left : F → Option (List ℕ))
           → Acts OpensFiles left failed held write_failed (2 ^ 24) c paths further w done made
           → ShowsAsked c file other out
       printed_done c paths further named (Ok u) is acts =
-          let opened = all_opened OpensFiles (paths ++ further) _ _ (λ e told. let h = told.0 in cc) acts in
+          let opened = all_opened OpensFiles (paths ++ further) _ _
+          (λ e told. let h = told.0 in cc) acts in
           elim opened.2 [
             | inl ran ↦ on_shown c paths further opened.0 ran.0 u named opened.1 ran.1
             | inr short ↦ (let h = short.0 in cc)
@@ -266,7 +349,8 @@ plainly paths k further = record {
 module _ (justice : Option Justice) (words : List (List ℕ)) where
   -- words that give a command, and no limit and no constraints before it
   asked_call : (more : List (List ℕ)) (c : Command) (a : Arguments)
-      → ((rest : List (List ℕ)) → ¬ (words ≡ codes "--limit" ∷ rest)) → AreJustice justice words more
+      → ((rest : List (List ℕ)) → ¬ (words ≡ codes "--limit" ∷ rest))
+      → AreJustice justice words more
       → dashed more ≡ false → AreCommand more c a → IsTrue (is_asked justice c)
       → IsCall words (2 ^ 24) (record { justice = justice; command = c }) a.paths a.further
   asked_call more c a no_limit asked plain gives allowed = record {
@@ -315,12 +399,13 @@ module _ (justice : Option Justice) (words : List (List ℕ)) where
 pub plain_call : (a : Action) (paths steps further : List (List ℕ)) (k : ℕ)
     → dashed (plain_words a paths steps further) ≡ false → length paths ≡ (form_of a).paths
     → AreStep (form_of a).step k steps → length further ≡ further_of (form_of a) k
+    → IsTrue (is_asked None (command_of a k false true))
     → IsCall (plain_words a paths steps further) (2 ^ 24)
     (record { justice = None; command = command_of a k false true }) paths further
-plain_call a paths steps further k plain count step beside =
+plain_call a paths steps further k plain count step beside allowed =
     given_call None (plain_words a paths steps further) a paths steps further k
     (no_dash (plain_words a paths steps further) _ plain)
-    (no_dash (plain_words a paths steps further) _ plain, refl) plain count step beside refl
+    (no_dash (plain_words a paths steps further) _ plain, refl) plain count step beside allowed
 
 -- a digit
 pub digit : (n : ℕ) → n < 10 → IsNumber n ((48 + n) ∷ [])
@@ -441,8 +526,8 @@ module _ (paths proofs : List (List ℕ)) (two : length paths ≡ 2) (five : len
   pub witness_call : dashed words ≡ false
       → IsCall words (2 ^ 24) (record { justice = None; command = commands.Simulated true }) paths
       proofs
-  witness_call plain = asked_call None words words (commands.Simulated true) (plainly paths 0 proofs)
-      (no_dash words _ plain) (no_dash words _ plain, refl) plain (inr (
+  witness_call plain = asked_call None words words (commands.Simulated true)
+      (plainly paths 0 proofs) (no_dash words _ plain) (no_dash words _ plain, refl) plain (inr (
         no_whole,
         inr (
           no_alone,

@@ -1,196 +1,189 @@
--- Of each question: a proof of the clauses that were printed is taken.
-use Rattle.aig_base.proofs.Words.{◌≡◌, ℕ, ◌+◌, Bool, List, ◌++◌, length, Option, Some, Result, Ok, Err, IfErr, refl, sym, ap₂, subst, ◌∙◌}
+-- Of each question of two files: a proof of the clauses that were printed is taken.
+use Rattle.aig_base.proofs.Words.{◌≡◌, ℕ, zero, suc, Bool, List, [], ◌∷◌, ◌++◌, length, None, Option, Some, Result, Ok, Err, IfErr, refl, same_Some, slice_get, sym, ap, ap₂, subst, ◌∙◌}
 use Rattle.aig_base.specs.declared.logic.literal.Lit.{Lit}
-use Rattle.aig_base.specs.Formula.{clauses_in}
 use Rattle.aig_circuit.specs.Circuit.{Circuit}
+use Rattle.aig_dimacs.specs.Reading.{parse_formula}
 use Rattle.aig_dimacs.specs.Text.{dimacs_of}
 use Rattle.aig_format.specs.Circuit.{circuit_of, text_of}
 use Rattle.aig_format.specs.File.{File}
 use Rattle.aig_format.specs.Fits.{Accepts}
-use Rattle.aig_reader.specs.Reading.{IsReadAs}
-use Rattle.aig_reader.specs.Verdicts.{Accepted, Judges, verdict_by}
+use Rattle.aig_reader.specs.Verdicts.{Accepted}
 use Rattle.aig_refutation.specs.Checking.{Shows}
 use Rattle.aig_refutation.specs.declared.error.RefutationError.{RefutationError}
-use Rattle.aig_runs.specs.declared.window.Window.{Window}
 use Rattle.aig_runs.specs.declared.window.Window.TheVariants.{Plain}
-use Rattle.aig_answers.specs.Answers as answering
-use Rattle.aig_answers.specs.Answers.{IsAsked, IsCircuitQuery, TellsOfCircuit, TellsOfCircuitWindow, TellsOfStep, TellsOfWindow, asked_verdict, query_with, window_verdict}
+use Rattle.aig_subjects.specs.Reads.{AreReadAs}
+use Rattle.aig_subjects.specs.declared.subject.FileSubject.TheVariants.{Own}
+use Rattle.aig_subjects.specs.declared.subject.Subject.TheVariants as subjects
+use Rattle.aig_answers.specs.Answers.{IsCircuitQuery, query_with}
+use Rattle.aig_answers.specs.Goals.{ChecksGoal, TellsOfGoal, fault_of}
+use Rattle.aig_answers.specs.Plans.{AnswersAt, Asks, IsHeld, Makes, Tells, asked_with}
 use Rattle.aig_answers.specs.declared.circuits.CircuitQuery.{CircuitQuery}
-use Rattle.aig_answers.specs.declared.error.AnswerError.{AnswerError}
-use Rattle.aig_answers.specs.declared.error.AnswerError.TheVariants as answers
-use Rattle.aig_answers.specs.Asking as bounding
-use Rattle.aig_answers.specs.Asking.{AnswersProof, IsAskedWithin, IsOfCheck, bounded_verdict}
-use Rattle.aig_answers.specs.declared.bounded_checks.error.BoundedAnswerError.{BoundedAnswerError}
-use Rattle.aig_answers.specs.declared.bounded_checks.error.BoundedAnswerError.TheVariants as bounded
-use Rattle.aig_answers.specs.Certificates.{Certifies, Equals, IsOwn, first_verdict, second_verdict}
-use Rattle.aig_answers.specs.declared.certificates.error.CertificateError.{CertificateError}
-use Rattle.aig_answers.specs.declared.certificates.error.CertificateError.TheVariants as certificate
-use Rattle.aig_check_commands.specs.Bounded.{IsBoundedText}
+use Rattle.aig_answers.specs.declared.goals.error.GoalError.{GoalError}
+use Rattle.aig_answers.specs.declared.goals.error.GoalFault.{GoalFault}
+use Rattle.aig_answers.specs.declared.goals.error.GoalFault.TheVariants as faults
+use Rattle.aig_answers.specs.declared.goals.goal.Goal.TheVariants as goals
+use Rattle.aig_answers.specs.declared.plans.asking.Ask.{Ask}
+use Rattle.aig_answers.specs.declared.plans.asking.Ask.TheVariants as asks
+use Rattle.aig_answers.specs.declared.plans.asking.Question.{Question}
+use Rattle.aig_answers.specs.declared.plans.errors.PlanError.TheVariants as plans
+use Rattle.aig_answers.specs.declared.plans.errors.Refused.{Refused}
+use Rattle.aig_answers.specs.declared.plans.errors.Why.{Why}
+use Rattle.aig_answers.specs.declared.plans.errors.Why.TheVariants as whys
+use Rattle.aig_answers.specs.declared.windows.WindowClauses.{WindowClauses}
 use Rattle.aig_check_commands.specs.Pairs.{IsObligationsText, formula_of}
-use Rattle.aig_check_commands.specs.Running.{IsClausesText, IsWindowText}
 use Rattle.aig_check_commands.specs.Titling.{pair_title}
 use Rattle.aig_check_commands.specs.Titles.{title_text}
 use Rattle.aig_tool_commands.specs.Running.{IsTextOf}
 use Rattle.aig_edits.specs.Joints.{IsJointOf}
-use Rattle.aig_edits.specs.Pairs.{ReadsPair}
 use Rattle.aig_edits.specs.declared.pairing.Pairing.{Pairing}
-use Rattle.aig_edits.specs.declared.pairing.Pairing.TheVariants.{Certificate, Miter}
+use Rattle.aig_edits.specs.declared.pairing.Pairing.TheVariants.{Miter}
 use Rattle.aig_encode.specs.Encoding.{IsQuery}
 use Rattle.aig_encode.specs.declared.query_clauses.Query.{Query}
+use Rattle.aig_join.specs.Certificate.{certified}
 use Rattle.aig_join.specs.Miter.{IsMiter}
-use Rattle.aig_callers.specs.Taking.{IsBoundedHindrance, IsHindrance, IsOfNoProof, IsOutside, IsProofOf, TakesParts}
+use Rattle.aig_callers.specs.Taking.{IsOfNoProof, IsOfWhy, IsOutside, IsProofOf, TakesParts}
 use Rattle.aig_callers.specs.Texts.{usual}
-use Rattle.aig_callers.proofs.Taken.{Laws, SpellOne, answer_taken, bounded_hindered, hindered, text_taken, told_of}
+use Rattle.aig_callers.proofs.Taken.{Laws, SpellOne, text_taken, told_of}
 
-any : {E : Type 0} (answer : Result (Unit {0}) E) → IfErr answer (λ e. Unit {0})
-any (Ok u) = tt
-any (Err e) = tt
+-- a question has one list of clauses
+abbrev pub ClausesAreOne : Type 0
+ClausesAreOne =
+    (a : Ask) (optimize : Bool) (c : Circuit) (one other : Option WindowClauses)
+    → Makes a optimize c one → Makes a optimize c other → one ≡ other
 
-module _ (laws : Laws) (one : SpellOne) (limit k : ℕ) (optimize : Bool) (file proof text : List ℕ)
-    (f : File) (old new given : Option (List ℕ)) (failed : Bool) (is : old ≡ Some file)
-    (known : given ≡ Some proof) where
-  pub step_taken : (answer : Result (Unit {0}) AnswerError) → IsAsked limit k file f
-      → asked_verdict limit k f ≡ Accepted → IsClausesText (Some file) f k optimize text
-      → Judges (asked_verdict limit k) limit old new failed (verdict_by answering.verdict_of answer)
-      → (verdict_by answering.verdict_of answer ≡ Accepted
-      → IsReadAs (IsAsked limit k) (TellsOfStep k optimize given) old new answer)
-      → IsProofOf text proof → IfErr answer IsHindrance
-  step_taken answer asked takes printed told shown p =
-      let q = printed.query in
-      let clauses = clauses_in q.encoded.clauses ++ q.extra in
-      answer_taken laws one limit file text proof f asked.0.0 (length q.encoded.clauses) clauses
-      printed.again
-      answering.verdict_of answers.Refutation (λ r. refl) (λ e. Unit {0}) IsHindrance hindered
-      (asked_verdict limit k) (IsAsked limit k) (TellsOfStep k optimize given) old new failed answer
-      (any answer) takes (λ b g h. h.0.0.0)
-      (λ r means. subst (λ t. Shows (length q.encoded.clauses) clauses t (Err r)) known
-      (means.1 q printed.asks))
-      is told shown p
+-- ---- a proof of the clauses of a question
 
-  pub window_taken : (form : Window) (answer : Result (Unit {0}) AnswerError)
-      → IsAsked limit (k + 1) file f → window_verdict form limit k f ≡ Accepted
-      → IsWindowText (Some file) form f k optimize text
-      → Judges (window_verdict form limit k) limit old new failed
-      (verdict_by answering.verdict_of answer)
-      → (verdict_by answering.verdict_of answer ≡ Accepted
-      → IsReadAs (IsAsked limit (k + 1)) (TellsOfWindow form k optimize given) old new answer)
-      → IsProofOf text proof → IfErr answer IsHindrance
-  window_taken form answer asked takes printed told shown p =
-      let clauses = clauses_in printed.lists ++ printed.extra in
-      answer_taken laws one limit file text proof f asked.0.0 (length printed.lists) clauses
-      printed.again
-      answering.verdict_of answers.Refutation (λ r. refl) (λ e. Unit {0}) IsHindrance hindered
-      (window_verdict form limit k) (IsAsked limit (k + 1)) (TellsOfWindow form k optimize given)
-      old new failed answer (any answer) takes (λ b g h. h.0.0.0)
-      (λ r means. subst (λ t. Shows (length printed.lists) clauses t (Err r)) known
-      (means.1 printed.lists printed.extra printed.asks))
-      is told shown p
+-- the text has the clauses, and those that ask the question are just these
+pub record IsAskedBy (q : Question) (m : Circuit) (text : List ℕ) : Type 0 where
+  pub made : WindowClauses
+  pub again : parse_formula text ≡ Some (length made.clauses, formula_of made)
+  pub only : (other : WindowClauses) → Asks q.ask q.optimize m other → made ≡ other
 
-  pub bounded_taken : {P : Type 0} (left : P → Option (List ℕ)) (before after : P)
-      (answer : Result (Unit {0}) BoundedAnswerError) → IfErr answer IsOfCheck
-      → IsAskedWithin limit file f
-      → bounded_verdict f ≡ Accepted → IsBoundedText (Some file) f k optimize text
-      → Judges bounded_verdict limit old new failed (verdict_by bounding.verdict_of answer)
-      → (verdict_by bounding.verdict_of answer ≡ Accepted
-      → IsReadAs (IsAskedWithin limit) (AnswersProof left k optimize before after) old new answer)
-      → left before ≡ given → IsProofOf text proof → IfErr answer IsBoundedHindrance
-  bounded_taken left before after answer own asked takes printed told shown same p =
-      let made = printed.made in
-      let clauses = clauses_in made.clauses ++ made.extra in
-      answer_taken laws one limit file text proof f asked.0 (length made.clauses) clauses
-      printed.again
-      bounding.verdict_of bounded.Refutation (λ r. refl) IsOfCheck IsBoundedHindrance
-      bounded_hindered
-      bounded_verdict (IsAskedWithin limit) (AnswersProof left k optimize before after) old new
-      failed answer own takes (λ b g h. h.0.0)
-      (λ r means.
-      let of_clauses = means.1 made printed.asks in
-      subst (λ t. Shows (length made.clauses) clauses t (Err r)) (same ∙ known)
-      (of_clauses.shown (λ settled. let taken = (of_clauses.settled settled).0 in cc)))
-      is told shown p
+module _ (laws : Laws) (limit : ℕ) {P : Type 0} (given : P → Option (List ℕ))
+    (given_failed : P → Bool) (q : Question) (m : Circuit) (text proof : List ℕ)
+    (asked : IsAskedBy q m text) (proves : IsProofOf text proof) (p : P)
+    (known : given p ≡ Some proof) where
+  of_refutation : (rest : P) (made : Option WindowClauses) (e : RefutationError)
+      → Makes q.ask q.optimize m made → IsHeld given given_failed made p rest (Err e) → IsOutside e
+  of_refutation rest None e makes held = let no : Err e ≡ Ok tt = held.0 in cc
+  of_refutation rest (Some other) e makes held =
+      let made = asked.made in
+      text_taken laws text proof (length made.clauses) (formula_of made) e asked.again proves
+      (subst (λ t. Shows (length made.clauses) (formula_of made) t (Err e)) known
+      (subst (λ (w : WindowClauses). Shows (length w.clauses) (formula_of w) (given p) (Err e))
+      (sym (asked.only other makes)) held.0))
+
+  of_why : (rest : P) (why : Why) → Tells given given_failed limit q m p rest (Err why)
+      → IsOfWhy why
+  of_why rest (whys.Refutation e) tells = of_refutation rest tells.0 e tells.1 tells.2
+  of_why rest (whys.Clauses e) tells = tt
+
+  -- it is at this place of a plan, and of the proofs
+  at_place : (plan : List Question) (proofs used : List P) (n : ℕ) (why : Why)
+      → slice_get plan n ≡ Some q → slice_get proofs n ≡ Some p
+      → AnswersAt given given_failed limit plan m proofs used n (Err why) → IsOfWhy why
+  at_place plan proofs used n why is_asked has at =
+      of_why at.rest why
+      (subst (λ x. Tells given given_failed limit q m x at.rest (Err why))
+      (same_Some _ _ (sym at.was ∙ has))
+      (subst (λ x. Tells given given_failed limit x m at.proof at.rest (Err why))
+      (same_Some _ _ (sym at.asked ∙ is_asked)) at.tells))
 
 -- ---- two files
 
+module _ (one : SpellOne) (limit : ℕ) (file beside : List ℕ) (f g : File)
+    (accepts : Accepts file limit f) (also : Accepts beside limit g) {S T : Type 0}
+    (left : S → Option (List ℕ)) (failed : S → Bool) (r s : S) (is : left r ≡ Some file)
+    (is_also : left s ≡ Some beside) (Means : List File → T → Type 0) (value : T) where
+  -- what is meant for the files that the bytes are
+  of_both : (after : List S)
+      → AreReadAs left failed limit Means (Accepted ∷ Accepted ∷ []) (r ∷ s ∷ []) after value
+      → Means (f ∷ g ∷ []) value
+  of_both [] reads = absurd reads
+  of_both (rest ∷ []) reads =
+      absurd (told_of one limit file f accepts (λ b. Accepts b limit)
+      (λ h. AreReadAs left failed limit (λ files. Means (h ∷ files)) (Accepted ∷ []) (s ∷ []) [])
+      (left r) (left rest) value (λ b h holds. holds.0) is (reads.0.whole tt).1 reads.1)
+  of_both (rest ∷ other ∷ others) reads =
+      let first = told_of one limit file f accepts (λ b. Accepts b limit)
+      (λ h. AreReadAs left failed limit (λ files. Means (h ∷ files)) (Accepted ∷ []) (s ∷ [])
+      (other ∷ others)) (left r) (left rest) value (λ b h holds. holds.0) is
+      (reads.0.whole tt).1 reads.1 in
+      (told_of one limit beside g also (λ b. Accepts b limit)
+      (λ h. AreReadAs left failed limit (λ files. Means (f ∷ h ∷ files)) [] [] others) (left s)
+      (left other) value (λ b h holds. holds.0) is_also (first.0.whole tt).1 first.1).0
+
 module _ (laws : Laws) (one : SpellOne) (limit : ℕ) (file beside : List ℕ) (f g : File)
-    (accepts : Accepts file limit f) (also : Accepts beside limit g) where
-  module _ {R S : Type 0} (left : R → Option (List ℕ)) (failed : R → Bool) (left_of : S
-      → Option (List ℕ)) (failed_of : S → Bool) (Means : File → File
-      → Result (Unit {0}) CertificateError → Type 0) (r rest : R) (s other : S) (is : left r
-      ≡ Some file) (is_also : left_of s ≡ Some beside) where
-    -- what a result means of both files, where it says that they are taken
-    means_of : (answer : Result (Unit {0}) CertificateError)
-        → verdict_by first_verdict answer ≡ Accepted → verdict_by second_verdict answer ≡ Accepted
-        → ReadsPair left failed left_of failed_of limit Means first_verdict second_verdict IsOwn r s
-        answer rest other
-        → Means f g answer
-    means_of answer first second reads =
-        let end = (subst (λ v. Judges (λ _. Accepted) limit (left r) (left rest) (failed rest) v)
-        first reads.verdict).whole tt in
-        let also_end = (subst (λ v. Judges (λ _. Accepted) limit (left_of s) (left_of other)
-        (failed_of other) v) second (reads.other_verdict first)).whole tt in
-        let of_first = told_of one limit file f accepts (λ b. Accepts b limit)
-        (λ h. IsReadAs (λ b. Accepts b limit) (Means h) (left_of s) (left_of other)) (left r)
-        (left rest) answer (λ b h holds. holds.0) is end.1 (reads.answer first second) in
-        told_of one limit beside g also (λ b. Accepts b limit) (Means f) (left_of s) (left_of other)
-        answer (λ b h holds. holds.0) is_also also_end.1 of_first
+    (accepts : Accepts file limit f) (also : Accepts beside limit g) {S P : Type 0}
+    (left : S → Option (List ℕ)) (failed : S → Bool) (given : P → Option (List ℕ))
+    (given_failed : P → Bool) (r s : S) (is : left r ≡ Some file) (is_also : left s ≡ Some beside)
+  where
+    -- ---- a certificate
 
-  -- ---- a certificate
+    module _ (clauses_are_one : ClausesAreOne) (optimize : Bool) (text base step : List ℕ)
+        (printed : IsObligationsText optimize (Some file) (Some beside) f g text) (p q : P)
+        (base_known : given p ≡ Some base) (step_known : given q ≡ Some step) where
+      abbrev IsCertified : Result (Unit {0}) GoalFault → List S → List P → Type 0
+      IsCertified x after used =
+          ChecksGoal left failed given given_failed limit (subjects.Certified Own)
+          (goals.SafeBySteps 0 Plain) optimize optimize (r ∷ s ∷ []) (p ∷ q ∷ []) x after used
 
-  module _ (optimize : Bool) (text base step : List ℕ) (base_given step_given : Option (List ℕ))
-      (base_known : base_given ≡ Some base) (step_known : step_given ≡ Some step)
-      (printed : IsObligationsText optimize (Some file) (Some beside) f g text) where
-    same_joint : (m : Circuit) → IsJointOf Certificate f g m → m ≡ printed.asked.whole
-    same_joint m joint = joint.joint ∙ sym printed.asked.joint.joint
+      abbrev plan : List Question
+      plan = asked_with optimize (asks.Step 0) ∷ asked_with optimize (asks.Window 0 Plain) ∷ []
 
-    base_taken : (e : RefutationError) → IsProofOf printed.base base
-        → Certifies limit optimize base_given step_given f g
-        (Err (certificate.Query (answers.Refutation e)))
-        → IsOutside e
-    base_taken e p (m, joint, tells) =
-        let told = subst (λ c. TellsOfCircuit 0 optimize base_given c (Err (answers.Refutation e)))
-        (same_joint m joint) (tells.shown refl) in
-        let made = printed.base_clauses in
-        text_taken laws printed.base base (length made.clauses) (formula_of made) e
-        printed.base_again p
-        (subst (λ t. Shows (length made.clauses) (formula_of made) t (Err e)) base_known
-        (told.1 (query_with printed.asked.unrolled made) printed.asked.base))
+      -- the clauses that were printed are those of the subject's circuit
+      base_asked : IsAskedBy (asked_with optimize (asks.Step 0)) printed.asked.whole printed.base
+      base_asked = record {
+        made = printed.base_clauses;
+        again = printed.base_again;
+        only = λ other asked. same_Some _ _
+            (clauses_are_one (asks.Step 0) optimize printed.asked.whole (Some printed.base_clauses)
+            (Some other) (printed.asked.unrolled, printed.asked.base) asked);
+      }
 
-    step_taken_of : (e : RefutationError) → IsProofOf printed.step step
-        → Certifies limit optimize base_given step_given f g
-        (Err (certificate.Window (answers.Refutation e)))
-        → IsOutside e
-    step_taken_of e p (m, joint, first, tells) =
-        let told = subst (λ c. TellsOfCircuitWindow Plain 0 optimize step_given c
-        (Err (answers.Refutation e))) (same_joint m joint) (tells.shown refl) in
-        let made = printed.step_clauses in
-        text_taken laws printed.step step (length made.clauses) (formula_of made) e
-        printed.step_again p
-        (subst (λ t. Shows (length made.clauses) (formula_of made) t (Err e)) step_known
-        (told.1 made.clauses made.extra printed.asked.step))
+      step_asked : IsAskedBy (asked_with optimize (asks.Window 0 Plain)) printed.asked.whole
+          printed.step
+      step_asked = record {
+        made = printed.step_clauses;
+        again = printed.step_again;
+        only = λ other asked. same_Some _ _
+            (clauses_are_one (asks.Window 0 Plain) optimize printed.asked.whole
+            (Some printed.step_clauses) (Some other) printed.asked.step asked);
+      }
 
-    module _ {R S : Type 0} (left : R → Option (List ℕ)) (failed : R → Bool) (left_of : S
-        → Option (List ℕ)) (failed_of : S → Bool) (r rest : R) (s other : S) (is : left r
-        ≡ Some file) (is_also : left_of s ≡ Some beside) where
-      both_taken : (answer : Result (Unit {0}) CertificateError)
-          → ReadsPair left failed left_of failed_of limit (Certifies limit optimize base_given
-          step_given) first_verdict second_verdict IsOwn r s answer rest other
-          → IsProofOf printed.base base → IsProofOf printed.step step → IfErr answer IsOfNoProof
-      both_taken (Ok u) reads p q = tt
-      both_taken (Err (certificate.Query (answers.Refutation e))) reads p q =
-          base_taken e p (means_of left failed left_of failed_of
-          (Certifies limit optimize base_given step_given) r rest s other is is_also
-          (Err (certificate.Query (answers.Refutation e))) refl refl reads)
-      both_taken (Err (certificate.Window (answers.Refutation e))) reads p q =
-          step_taken_of e q (means_of left failed left_of failed_of
-          (Certifies limit optimize base_given step_given) r rest s other is is_also
-          (Err (certificate.Window (answers.Refutation e))) refl refl reads)
-      both_taken (Err e) reads p q = tt
+      part_taken : (used : List P) (n : ℕ) (why : Why) → IsProofOf printed.base base
+          → IsProofOf printed.step step
+          → AnswersAt given given_failed limit plan printed.asked.whole (p ∷ q ∷ []) used n (Err why)
+          → IsOfWhy why
+      part_taken used zero why first second at =
+          at_place laws limit given given_failed (asked_with optimize (asks.Step 0))
+          printed.asked.whole printed.base base base_asked first p base_known plan (p ∷ q ∷ []) used 0
+          why refl refl at
+      part_taken used (suc zero) why first second at =
+          at_place laws limit given given_failed (asked_with optimize (asks.Window 0 Plain))
+          printed.asked.whole printed.step step step_asked second q step_known plan (p ∷ q ∷ [])
+          used 1 why refl refl at
+      part_taken used (suc (suc n)) why first second at = let no = at.asked in cc
 
-      pub parts_taken : (answer : Result (Unit {0}) CertificateError)
-          → ReadsPair left failed left_of failed_of limit (Certifies limit optimize base_given
-          step_given) first_verdict second_verdict IsOwn r s answer rest other
-          → TakesParts text base step answer
-      parts_taken answer reads =
+      both_taken : (after : List S) (used : List P) (x : Result (Unit {0}) GoalFault)
+          → IsCertified x after used → IsProofOf printed.base base → IsProofOf printed.step step
+          → IfErr x IsOfNoProof
+      both_taken after used (Ok u) checks first second = tt
+      both_taken after used (Err (faults.Plan (plans.Refused e))) checks first second =
+          let told = of_both one limit file beside f g accepts also left failed r s is is_also
+          (TellsOfGoal given given_failed limit (subjects.Certified Own) (goals.SafeBySteps 0 Plain)
+          optimize optimize (p ∷ q ∷ []) used) (Err (faults.Plan (plans.Refused e))) after
+          checks.reads.reads in
+          let same : told.0 ≡ printed.asked.whole = told.1.2.joint
+          ∙ ap (λ c. certified c (circuit_of g)) told.1.1 ∙ sym printed.asked.joint.joint in
+          part_taken used e.index e.why first second
+          (subst (λ c. AnswersAt given given_failed limit plan c (p ∷ q ∷ []) used e.index
+          (Err e.why)) same told.2.1.1)
+      both_taken after used (Err e) checks first second = tt
+
+      pub parts_taken : (after : List S) (used : List P) (answer : Result (Unit {0}) GoalError)
+          → IsCertified (fault_of answer) after used → TakesParts text base step answer
+      parts_taken after used answer checks =
           let first = dimacs_of (length printed.base_clauses.clauses)
           (formula_of printed.base_clauses) in
           let second = dimacs_of (length printed.step_clauses.clauses)
@@ -202,59 +195,64 @@ module _ (laws : Laws) (one : SpellOne) (limit : ℕ) (file beside : List ℕ) (
             second = second;
             parted = printed.exact
                 ∙ ap₂ (λ a b. title ++ a ++ b) printed.base_exact printed.step_exact;
-            takes = λ p q. both_taken answer reads
-                (subst (λ t. IsProofOf t base) (sym printed.base_exact) p)
-                (subst (λ t. IsProofOf t step) (sym printed.step_exact) q);
+            takes = λ of_base of_step. both_taken after used (fault_of answer) checks
+                (subst (λ t. IsProofOf t base) (sym printed.base_exact) of_base)
+                (subst (λ t. IsProofOf t step) (sym printed.step_exact) of_step);
           }
 
-  -- ---- a miter
+    -- ---- a miter
 
-  -- what is known of miters: two circuits have one, and its text asks for what it asks for
-  abbrev pub MitersAreOne : Type 0
-  MitersAreOne = (a b m n : Circuit) → IsMiter a b m → IsMiter a b n → m ≡ n
+    -- what is known of miters: two circuits have one, and its text asks for what it asks for
+    abbrev pub MitersAreOne : Type 0
+    MitersAreOne = (a b m n : Circuit) → IsMiter a b m → IsMiter a b n → m ≡ n
 
-  abbrev pub AskTheSame : Type 0
-  AskTheSame =
-      (pairing : Pairing) (f g h : File) (m : Circuit) (limit k : ℕ)
-      (optimize : Bool) (one : Query) (other : CircuitQuery) → IsJointOf pairing f g m
-      → Accepts (text_of m) limit h → IsQuery k optimize h one → IsCircuitQuery m k optimize other
-      → (one.encoded.clauses ≡ other.clauses) × (one.extra ≡ other.extra)
+    abbrev pub AskTheSame : Type 0
+    AskTheSame =
+        (pairing : Pairing) (f g h : File) (m : Circuit) (limit k : ℕ)
+        (optimize : Bool) (one : Query) (other : CircuitQuery) → IsJointOf pairing f g m
+        → Accepts (text_of m) limit h → IsQuery k optimize h one → IsCircuitQuery m k optimize other
+        → (one.encoded.clauses ≡ other.clauses) × (one.extra ≡ other.extra)
 
-  module _ (are_one : MitersAreOne) (ask_the_same : AskTheSame) (k : ℕ) (optimize : Bool)
-      (text proof : List ℕ) (given : Option (List ℕ)) (known : given ≡ Some proof) (m : Circuit)
-      (joint : IsJointOf (Miter usual) f g m) (h : File) (written : Accepts (text_of m) limit h) (q : Query)
-      (asks : IsQuery k optimize h q) (printed : IsTextOf q.encoded.clauses q.extra text) where
-    query_taken : (e : RefutationError) → IsProofOf text proof
-        → Equals usual limit k optimize given f g (Err (certificate.Query (answers.Refutation e)))
-        → IsOutside e
-    query_taken e p (n, other, tells) =
-        let same : m ≡ n = are_one (circuit_of f) (circuit_of g) m n joint.joint other.joint in
-        let told = tells.shown refl in
-        let made = told.0.0 in
-        let clauses = ask_the_same (Miter usual) f g h n limit k optimize q made other
-        (subst (λ c. Accepts (text_of c) limit h) same written) asks told.0.1 in
-        let shows = subst (λ t. Shows (length made.clauses)
-        (clauses_in made.clauses ++ made.extra) t (Err e)) known (told.1 made told.0.1) in
-        let alike = subst (λ (ls : List (List (List Lit))). Shows (length ls)
-        (clauses_in ls ++ made.extra) (Some proof) (Err e)) (sym clauses.0) shows in
-        text_taken laws text proof (length q.encoded.clauses) (clauses_in q.encoded.clauses ++
-        q.extra) e printed.again p
-        (subst (λ (fs : List (List Lit)). Shows (length q.encoded.clauses)
-        (clauses_in q.encoded.clauses ++ fs) (Some proof) (Err e)) (sym clauses.1) alike)
+    module _ (are_one : MitersAreOne) (ask_the_same : AskTheSame) (k : ℕ) (optimize : Bool)
+        (text proof : List ℕ) (p : P) (known : given p ≡ Some proof) (m : Circuit)
+        (joint : IsJointOf (Miter usual) f g m) (h : File) (written : Accepts (text_of m) limit h)
+        (query : Query) (query_is : IsQuery k optimize h query)
+        (printed : IsTextOf query.encoded.clauses query.extra text) where
+      abbrev step : Question
+      step = asked_with optimize (asks.Step k)
 
-    module _ {R S : Type 0} (left : R → Option (List ℕ)) (failed : R → Bool) (left_of : S
-        → Option (List ℕ)) (failed_of : S → Bool) (r rest : R) (s other : S) (is : left r
-        ≡ Some file) (is_also : left_of s ≡ Some beside) where
-      pub equal_taken : (answer : Result (Unit {0}) CertificateError)
-          → ReadsPair left failed left_of failed_of limit (Equals usual limit k optimize given)
-          first_verdict second_verdict IsOwn r s answer rest other
-          → IsProofOf text proof → IfErr answer IsOfNoProof
-      equal_taken (Ok u) reads p = tt
-      equal_taken (Err (certificate.Query (answers.Refutation e))) reads p =
-          query_taken e p (means_of left failed left_of failed_of (Equals usual limit k optimize given) r
-          rest s other is is_also (Err (certificate.Query (answers.Refutation e))) refl refl
-          reads)
-      equal_taken (Err (certificate.Window (answers.Refutation e))) reads p =
-          absurd (means_of left failed left_of failed_of (Equals usual limit k optimize given) r rest s
-          other is is_also (Err (certificate.Window (answers.Refutation e))) refl refl reads)
-      equal_taken (Err e) reads p = tt
+      -- the clauses that were printed are those of the miter's circuit
+      query_asked : IsAskedBy step m text
+      query_asked = record {
+        made = record { clauses = query.encoded.clauses; extra = query.extra };
+        again = printed.again;
+        only = λ other asked.
+            let same = ask_the_same (Miter usual) f g h m limit k optimize query
+            (query_with asked.0 other) joint written query_is asked.1 in
+            ap₂ (λ (a : List (List (List Lit))) (b : List (List Lit)).
+            record { clauses = a; extra = b }) same.0 same.1;
+      }
+
+      pub equal_taken : (after : List S) (used : List P) (x : Result (Unit {0}) GoalFault)
+          → ChecksGoal left failed given given_failed limit (subjects.Miter usual) (goals.Refuted k)
+          optimize optimize (r ∷ s ∷ []) (p ∷ []) x after used
+          → IsProofOf text proof → IfErr x IsOfNoProof
+      equal_taken after used (Ok u) checks proves = tt
+      equal_taken after used (Err (faults.Plan (plans.Refused e))) checks proves =
+          let told = of_both one limit file beside f g accepts also left failed r s is is_also
+          (TellsOfGoal given given_failed limit (subjects.Miter usual) (goals.Refuted k) optimize
+          optimize (p ∷ []) used) (Err (faults.Plan (plans.Refused e))) after checks.reads.reads in
+          let same : told.0 ≡ m = are_one (circuit_of f) (circuit_of g) told.0 m told.1.joint
+          joint.joint in
+          by_place used e.index e.why proves
+          (subst (λ c. AnswersAt given given_failed limit (step ∷ []) c (p ∷ []) used e.index
+          (Err e.why)) same told.2.1.1)
+        where
+          by_place : (used : List P) (n : ℕ) (why : Why) → IsProofOf text proof
+              → AnswersAt given given_failed limit (step ∷ []) m (p ∷ []) used n (Err why)
+              → IsOfWhy why
+          by_place used zero why proves at =
+              at_place laws limit given given_failed step m text proof query_asked proves p known
+              (step ∷ []) (p ∷ []) used 0 why refl refl at
+          by_place used (suc n) why proves at = let no = at.asked in cc
+      equal_taken after used (Err e) checks proves = tt

@@ -7,9 +7,6 @@ use Rattle.aig_format.specs.Fits.{Accepts}
 use Rattle.aig_format.specs.Spells.{Spells}
 use Rattle.aig_reader.specs.Reading.{IsReadAs}
 use Rattle.aig_reader.specs.Verdicts.{Accepted, Crowded, IsOfFile, IsSettled, IsVerdictOn, Judges, NoBads, TooLarge, Verdict, verdict_by}
-use Rattle.aig_reader.specs.Verdicts as reading
-use Rattle.aig_reader.specs.declared.error.ReadError.{ReadError}
-use Rattle.aig_reader.specs.declared.error.ReadError.TheVariants as read
 use Rattle.aig_refutation.specs.Checking.{IsOutcome, Shows, all_live, are_all_in, outcome}
 use Rattle.aig_refutation.specs.BinaryNumbered.{numbered_steps_in}
 use Rattle.aig_refutation.specs.Forms.{has_word, is_binary, is_numbered, steps_in}
@@ -19,15 +16,7 @@ use Rattle.aig_refutation.specs.Steps.{PlainStep, Refute, Step}
 use Rattle.aig_refutation.specs.Written.{AreInOrder, AreWithin, IsBinaryStep, IsNumber, IsPlainStep, IsWrittenStep, binary_text, numbered_text, plain_text, proof_text, worded_text}
 use Rattle.aig_refutation.specs.declared.error.RefutationError.{RefutationError}
 use Rattle.aig_refutation.specs.declared.error.RefutationError.TheVariants as refutation
-use Rattle.aig_answers.specs.Answers as answering
-use Rattle.aig_answers.specs.declared.error.AnswerError.{AnswerError}
-use Rattle.aig_answers.specs.declared.error.AnswerError.TheVariants as answers
-use Rattle.aig_encode.specs.declared.error.EncodeError.TheVariants as encode
-use Rattle.aig_answers.specs.Asking as bounding
-use Rattle.aig_answers.specs.Asking.{IsOfCheck}
-use Rattle.aig_answers.specs.declared.bounded_checks.error.BoundedAnswerError.{BoundedAnswerError}
-use Rattle.aig_answers.specs.declared.bounded_checks.error.BoundedAnswerError.TheVariants as bounded
-use Rattle.aig_callers.specs.Taking.{IsBoundedHindrance, IsHindrance, IsOutside, IsProof, IsProofOf}
+use Rattle.aig_callers.specs.Taking.{IsOutside, IsProof, IsProofOf}
 use Rattle.aig_callers.proofs.Asking.{all_taken}
 use Rattle.aig_callers.proofs.Texts.{in_text}
 
@@ -167,67 +156,3 @@ module _ (one : SpellOne) (limit : ℕ) (bytes : List ℕ) (f : File) (accepts :
         subst (λ known. IfSome known (λ b. IsVerdictOn of limit b v)) is (told.exact settled)
         in
         on.each f accepts ∙ taken
-
--- ---- errors
-
--- an error of reading doesn't say that a file is taken
-read_refuses : (e : ReadError) → reading.verdict_of e ≢ Accepted
-read_refuses read.Memory is = cc
-read_refuses read.Stream is = cc
-read_refuses read.TooMany is = cc
-read_refuses e is = cc
-
--- an answer's error is a hindrance where the file is taken, and so is the proof
-pub hindered : (e : AnswerError) → Unit {0}
-    → (IsSettled (answering.verdict_of e) → answering.verdict_of e ≡ Accepted)
-    → ((r : RefutationError) → e ≡ answers.Refutation r → IsOutside r) → IsHindrance e
-hindered (answers.Encode (encode.Read e)) own settled proof = λ is. read_refuses e (settled is)
-hindered (answers.Encode encode.Memory) own settled proof = λ is. is
-hindered (answers.Encode encode.TooLarge) own settled proof =
-    λ is. let h : TooLarge ≡ Accepted = settled is in absurd cc
-hindered answers.NoBads own settled proof =
-    λ is. let h : NoBads ≡ Accepted = settled is in absurd cc
-hindered answers.TooLarge own settled proof =
-    λ is. let h : Crowded ≡ Accepted = settled is in absurd cc
-hindered (answers.Refutation e) own settled proof = proof e refl
-
-pub bounded_hindered : (e : BoundedAnswerError) → IsOfCheck e
-    → (IsSettled (bounding.verdict_of e) → bounding.verdict_of e ≡ Accepted)
-    → ((r : RefutationError) → e ≡ bounded.Refutation r → IsOutside r) → IsBoundedHindrance e
-bounded_hindered (bounded.Read e) own settled proof = λ is. read_refuses e (settled is)
-bounded_hindered bounded.NoBads own settled proof =
-    λ is. let h : NoBads ≡ Accepted = settled is in absurd cc
-bounded_hindered (bounded.Question e) own settled proof = λ is. is
-bounded_hindered (bounded.Refutation e) own settled proof = proof e refl
-bounded_hindered (bounded.Solution e) own settled proof = absurd own
-
--- ---- answers
-
--- The answer about a file that is taken, and about a proof of the clauses of a text: it says
--- `said` of the file's bytes, and `refutes` makes it of an error of the proof.
-module _ (laws : Laws) (one : SpellOne) (limit : ℕ) (bytes text given : List ℕ) (f : File)
-    (accepts : Accepts bytes limit f) (variables : ℕ) (clauses : List (List Lit))
-    (again : parse_formula text ≡ Some (variables, clauses)) where
-  module _ {E : Type 0} (said : E → Verdict) (refutes : RefutationError → E)
-      (accepted : (r : RefutationError) → said (refutes r) ≡ Accepted) (Own Hindrance : E → Type 0)
-      (hinders : (e : E) → Own e → (IsSettled (said e) → said e ≡ Accepted) → ((r : RefutationError)
-      → e ≡ refutes r → IsOutside r) → Hindrance e) where
-    pub answer_taken : (of : File → Verdict) (Holds : List ℕ → File → Type 0)
-        (Means : File → Result (Unit {0}) E → Type 0) (old new : Option (List ℕ)) (failed : Bool)
-        (answer : Result (Unit {0}) E) → IfErr answer Own → of f ≡ Accepted
-        → ((b : List ℕ) (g : File) → Holds b g → Spells g b)
-        → ((r : RefutationError) → Means f (Err (refutes r))
-        → Shows variables clauses (Some given) (Err r))
-        → old ≡ Some bytes → Judges of limit old new failed (verdict_by said answer)
-        → (verdict_by said answer ≡ Accepted → IsReadAs Holds Means old new answer)
-        → IsProofOf text given → IfErr answer Hindrance
-    answer_taken of Holds Means old new failed (Ok u) own takes spelled shows is told shown p = tt
-    answer_taken of Holds Means old new failed (Err e) own takes spelled shows is told shown p =
-        hinders e own (judged one limit bytes f accepts of old new failed (said e) is takes told)
-        (λ r same.
-        let all : said e ≡ Accepted = ap said same ∙ accepted r in
-        let end : IsAtEnd new = (told.whole (subst IsOfFile (sym all) tt)).1 in
-        let means : Means f (Err e) = told_of one limit bytes f accepts Holds Means old new
-        (Err e) spelled is end (shown all) in
-        text_taken laws text given variables clauses r again p
-        (shows r (subst (λ x. Means f (Err x)) same means)))

@@ -1,10 +1,10 @@
 -- Serves private clauses alone.
 -- Proofs of the clauses of a text, as solvers write them, and the answers that take them. (LRAT;
 -- DRAT.)
-use Rattle.std.specs.Prelude.{◌≡◌, ℕ, ◌-◌, ◌^◌, ◌++◌, ◌⊎◌, IsTrue, true, List, Some, All, Result, IfErr, codes}
+use Rattle.std.specs.Prelude.{◌≡◌, ℕ, ◌-◌, ◌^◌, [], ◌∷◌, ◌++◌, ◌⊎◌, IsTrue, true, List, Some, All, Result, IfErr, codes}
 use Rattle.aig_base.specs.declared.logic.literal.Lit.{Lit}
 use Rattle.aig_dimacs.specs.Reading.{parse_formula}
-use Rattle.aig_reader.specs.Verdicts.{IsSettled}
+use Rattle.aig_reader.specs.Verdicts.{IsSettled, Verdict}
 use Rattle.aig_refutation.specs.Checking.{all_live}
 use Rattle.aig_refutation.specs.Forms.{is_binary, is_numbered}
 use Rattle.aig_refutation.specs.Proofs.{allowed}
@@ -13,14 +13,18 @@ use Rattle.aig_refutation.specs.Steps.{PlainStep, Refute, Step}
 use Rattle.aig_refutation.specs.Written.{AreInOrder, AreWithin, IsBinaryStep, IsNumber, IsPlainStep, IsWrittenStep, binary_text, numbered_text, plain_text, proof_text}
 use Rattle.aig_refutation.specs.declared.error.RefutationError.{RefutationError}
 use Rattle.aig_refutation.specs.declared.error.RefutationError.TheVariants as refutation
-use Rattle.aig_answers.specs.Answers as answering
-use Rattle.aig_answers.specs.declared.error.AnswerError.{AnswerError}
-use Rattle.aig_answers.specs.declared.error.AnswerError.TheVariants as answers
-use Rattle.aig_answers.specs.Asking as bounding
-use Rattle.aig_answers.specs.declared.bounded_checks.error.BoundedAnswerError.{BoundedAnswerError}
-use Rattle.aig_answers.specs.declared.bounded_checks.error.BoundedAnswerError.TheVariants as bounded
-use Rattle.aig_answers.specs.declared.certificates.error.CertificateError.{CertificateError}
-use Rattle.aig_answers.specs.declared.certificates.error.CertificateError.TheVariants as certificate
+use Rattle.aig_answers.specs.Goals.{fault_of}
+use Rattle.aig_answers.specs.declared.goals.error.GoalError.{GoalError}
+use Rattle.aig_answers.specs.declared.goals.error.GoalFault.{GoalFault}
+use Rattle.aig_answers.specs.declared.goals.error.GoalFault.TheVariants as faults
+use Rattle.aig_answers.specs.declared.plans.errors.PlanError.{PlanError}
+use Rattle.aig_answers.specs.declared.plans.errors.PlanError.TheVariants as plans
+use Rattle.aig_answers.specs.declared.plans.errors.Why.{Why}
+use Rattle.aig_answers.specs.declared.plans.errors.Why.TheVariants as whys
+use Rattle.aig_check_commands.specs.declared.error.CheckError.{CheckError}
+use Rattle.aig_check_commands.specs.declared.error.CheckError.TheVariants as errors
+use Rattle.aig_subjects.specs.Subjects.{error_verdicts}
+use Rattle.aig_subjects.specs.declared.subject.Subject.{Subject}
 
 -- ---- proofs
 
@@ -84,29 +88,43 @@ pub record IsProofOf (text bytes : List ℕ) : Type 0 where
 abbrev pub IsOutside : RefutationError → Type 0
 IsOutside e = (e ≡ refutation.Memory) ⊎ (e ≡ refutation.Stream)
 
--- memory ran out, or a read of the file or of the proof failed
-abbrev pub IsHindrance : AnswerError → Type 0
-IsHindrance (answers.Refutation e) = IsOutside e
-IsHindrance e = ¬ IsSettled (answering.verdict_of e)
+-- a question has no clauses, since memory ran out or what is made for them is too large, or memory
+-- ran out or a read failed in the check of its proof
+abbrev pub IsOfWhy : Why → Type 0
+IsOfWhy (whys.Refutation e) = IsOutside e
+IsOfWhy (whys.Clauses e) = Unit {0}
 
--- the same of a bounded check, where a question that is too large counts as memory that ran out
-abbrev pub IsBoundedHindrance : BoundedAnswerError → Type 0
-IsBoundedHindrance (bounded.Refutation e) = IsOutside e
-IsBoundedHindrance e = ¬ IsSettled (bounding.verdict_of e)
+abbrev pub IsOfPlan : PlanError → Type 0
+IsOfPlan (plans.Refused e) = IsOfWhy e.why
+IsOfPlan e = ⊥
+
+-- one of the verdicts hides what the bytes are: memory ran out, or a read failed
+abbrev pub IsHidden : List Verdict → Type 0
+IsHidden [] = ⊥
+IsHidden (v ∷ said) = (¬ IsSettled v) ⊎ IsHidden said
+
+-- memory ran out, or a read of a file or of a proof failed
+abbrev pub IsOfFault : Subject → GoalFault → Type 0
+IsOfFault subject (faults.Plan e) = IsOfPlan e
+IsOfFault subject (faults.Subject e) = IsHidden (error_verdicts subject e)
+IsOfFault subject faults.Memory = Unit {0}
+
+abbrev pub IsHindrance : CheckError → Type 0
+IsHindrance (errors.Goal e) = IsOfFault e.subject e.fault
+IsHindrance e = ⊥
 
 -- a proof about two files is refused for memory or a read alone
-abbrev pub IsOfNoProof : CertificateError → Type 0
-IsOfNoProof (certificate.Query (answers.Refutation e)) = IsOutside e
-IsOfNoProof (certificate.Window (answers.Refutation e)) = IsOutside e
+abbrev pub IsOfNoProof : GoalFault → Type 0
+IsOfNoProof (faults.Plan (plans.Refused e)) = IsOfWhy e.why
 IsOfNoProof e = Unit {0}
 
 -- the text is a title and then that of two formulas, after a line that names each, and proofs of
 -- both aren't refused
-pub record TakesParts (text base step : List ℕ) (answer : Result (Unit {0}) CertificateError)
+pub record TakesParts (text base step : List ℕ) (answer : Result (Unit {0}) GoalError)
     : Type 0 where
   pub title : List ℕ
   pub first : List ℕ
   pub second : List ℕ
   pub parted : text ≡ title ++ (codes "c base\n" ++ first) ++ (codes "c step\n" ++ second)
   pub takes : IsProofOf (codes "c base\n" ++ first) base
-      → IsProofOf (codes "c step\n" ++ second) step → IfErr answer IsOfNoProof
+      → IsProofOf (codes "c step\n" ++ second) step → IfErr (fault_of answer) IsOfNoProof

@@ -1,11 +1,10 @@
 -- Serves private clauses alone.
 -- What the programs print of files that lie in memory.
-use Rattle.std.specs.Prelude.{◌≡◌, ℕ, ◌+◌, ◌^◌, Bool, List, Some}
-use Rattle.aig_answers.specs.Answers.{IsAsked, asked_verdict, window_verdict}
-use Rattle.aig_answers.specs.Asking.{IsAskedWithin, bounded_verdict}
-use Rattle.aig_check_commands.specs.Bounded.{IsBoundedText}
+use Rattle.std.specs.Prelude.{◌≡◌, ℕ, ◌^◌, Bool, List, [], ◌∷◌, Ok, Some}
+use Rattle.aig_answers.specs.declared.plans.asking.Question.{Question}
 use Rattle.aig_check_commands.specs.Pairs.{IsObligationsText}
-use Rattle.aig_check_commands.specs.Running.{IsClausesText, IsWindowText}
+use Rattle.aig_check_commands.specs.Questions.{IsQuestionText}
+use Rattle.aig_answers.specs.Plans.{room_of}
 use Rattle.aig_circuit.specs.Circuit.{Circuit}
 use Rattle.aig_tool_commands.specs.Running.{IsTextOf}
 use Rattle.aig_edits.specs.Joints.{IsJointOf}
@@ -15,29 +14,16 @@ use Rattle.aig_join.specs.declared.comparison.Constraints.TheVariants.{OfBoth}
 use Rattle.aig_join.specs.declared.starts.Starts.TheVariants.{Apart}
 use Rattle.aig_encode.specs.Encoding.{IsQuery}
 use Rattle.aig_encode.specs.declared.query_clauses.Query.{Query}
-use Rattle.aig_format.specs.Circuit.{text_of}
+use Rattle.aig_format.specs.Circuit.{circuit_of, text_of}
 use Rattle.aig_format.specs.File.{File}
 use Rattle.aig_format.specs.Fits.{Accepts}
-use Rattle.aig_reader.specs.Verdicts.{Accepted}
-use Rattle.aig_runs.specs.declared.window.Window.{Window}
+use Rattle.sha2.specs.Sha256.{sha256}
 
--- that of `clauses FILE K`, where FILE has these bytes
-abbrev pub IsClausesTextOf : ℕ → Bool → List ℕ → List ℕ → Type 0
-IsClausesTextOf k optimize file text =
-    (f : File) × IsAsked (2 ^ 24) k file f × (asked_verdict (2 ^ 24) k f ≡ Accepted)
-    × IsClausesText (Some file) f k optimize text
-
--- that of `window FILE K`
-abbrev pub IsWindowTextOf : Window → ℕ → Bool → List ℕ → List ℕ → Type 0
-IsWindowTextOf form k optimize file text =
-    (f : File) × IsAsked (2 ^ 24) (k + 1) file f × (window_verdict form (2 ^ 24) k f ≡ Accepted)
-    × IsWindowText (Some file) form f k optimize text
-
--- that of `bounded FILE K`
-abbrev pub IsBoundedTextOf : ℕ → Bool → List ℕ → List ℕ → Type 0
-IsBoundedTextOf k optimize file text =
-    (f : File) × IsAskedWithin (2 ^ 24) file f × (bounded_verdict f ≡ Accepted)
-    × IsBoundedText (Some file) f k optimize text
+-- that of a question of FILE, where FILE has these bytes
+abbrev pub IsQuestionTextOf : Question → List ℕ → List ℕ → Type 0
+IsQuestionTextOf q file text =
+    (f : File) × Accepts file (2 ^ 24) f × (room_of (2 ^ 24) (q ∷ []) (circuit_of f) ≡ Ok tt)
+    × IsQuestionText q (circuit_of f) (sha256 file) text
 
 -- that of `obligations FILE CERT`
 abbrev pub AreObligationsOf : Bool → List ℕ → List ℕ → List ℕ → Type 0

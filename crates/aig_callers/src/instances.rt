@@ -12,9 +12,8 @@ ghost use Rattle.aig_runs.specs.Safety.{IsSafeAt};
 ghost use Rattle.aig_runs.specs.declared.window.Window.TheVariants.{Plain};
 ghost use Rattle.aig_edit_laws.specs.Fair.{HasFairLasso, HasFairRun};
 ghost use Rattle.aig_join.specs.Constraints.{AreEqualMachinesBy};
-ghost use Rattle.aig_check_commands.specs.Goals.{HasNoLassoTo};
 ghost use Rattle.aig_check_commands.specs.Running.{IsShownLine};
-ghost use Rattle.aig_callers.specs.Instances.{AreOf, IsOf, IsPrinted};
+ghost use Rattle.aig_callers.specs.Instances.{AreOf, HasNoLassoTo, IsOf, IsPrinted};
 ghost use Rattle.aig_callers.specs.Texts.{usual};
 
 use aig_base::{FromRead, MemoryError, Source};

@@ -23,8 +23,8 @@ use aig_format::reads_exactly;
 use aig_runs::windows_are_one;
 
 /// Law: the file that the text of a joint circuit is has the clauses of the joint circuit's query, those of its windows, and those of
-/// its question for the steps up to one. So `check_equal` and `check_always_equal` judge proofs by the clauses that any call makes of
-/// the miter's text, and `check_certified` its proofs by those of the text of the file beside its certificate.
+/// its question for the steps up to one. So `check_goal` judges proofs about a miter, or about a file beside its certificate, by the
+/// clauses that any call makes of that circuit's text.
 pub fn joint_files_ask_the_same()
     ensures query { (pairing : Pairing) (f g h : File) (m : Circuit) (limit k : ℕ)
         (optimize : Bool) (one : Query) (other : CircuitQuery) → IsJointOf pairing f g m

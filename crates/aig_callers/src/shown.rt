@@ -1,14 +1,15 @@
 //! A file that is held in memory, and a proof about it.
 
-ghost use Rattle.std.specs.Prelude.{◌≡◌, ◌^◌, ℕ, [], List, IfOk, IsErrOf, IsOk, IsTrue, Some};
+ghost use Rattle.std.specs.Prelude.{◌≡◌, ◌<◌, ◌^◌, [], IfOk, IsOk, IsErrOf, IsTrue};
 ghost use Rattle.aig_answers.specs.Answers.{IsAsked};
 ghost use Rattle.aig_runs.specs.Safety.{IsSafeAt};
 ghost use Rattle.aig_format.specs.File.{File};
 ghost use Rattle.aig_format.specs.Fits.{Accepts};
 
-use aig_answers::{AnswerError, check_step};
-use aig_base::Source;
+use aig_answers::{Goal, GoalFault, PlanError, Refused, Why, check_goal};
+use aig_command_line::InMemory;
 use aig_edits::{Comparison, Constraints, Starts};
+use aig_subjects::{FileSubject, Subject};
 use std::alloc::Global;
 
 /// The limit on nodes.
@@ -20,28 +21,39 @@ pub(crate) const COMPARISON: Comparison = Comparison {
     constraints: Constraints::OfBoth,
 };
 
-/// Whether a proof is taken that the machine of a file reaches no bad state at step `k`. What it says of the file is said where
-/// the bytes are known, as those of a slice are.
-pub fn is_shown_safe<R: Source, P: Source>(
-    alloc: Global,
-    r: &mut R,
-    k: usize,
-    proof: &mut P,
-) -> Result<bool, AnswerError>
+/// Whether a proof is taken that the machine of a file reaches no bad state at step `k`.
+pub fn is_shown_safe(alloc: Global, file: &[u8], k: usize, proof: &[u8]) -> Result<bool, GoalFault>
+    requires { k < 2 ^ 32 }
     // Where it is, the machine reaches none.
-    ensures safe { (bytes : List ℕ) → R.left r.old ≡ Some bytes → IfOk result (λ shown. IsTrue shown
-        → (f : File) × Accepts bytes (2 ^ 24) f × IsSafeAt f k) }
+    ensures safe { IfOk result (λ shown. IsTrue shown
+        → (f : File) × Accepts file.now (2 ^ 24) f × IsSafeAt f k) }
     // Whether it is or not, something is asked of the file.
-    ensures asked { (bytes : List ℕ) → R.left r.old ≡ Some bytes → IsOk result
-        → (f : File) × IsAsked (2 ^ 24) k bytes f }
+    ensures asked { IsOk result → (f : File) × IsAsked (2 ^ 24) k file.now f }
     // And nothing only of a file without bad literals.
-    ensures nothing { (bytes : List ℕ) → R.left r.old ≡ Some bytes
-        → IsErrOf result AnswerError.NoBads
-        → (f : File) × Accepts bytes (2 ^ 24) f × (f.properties.bads ≡ []) }
+    ensures nothing { IsErrOf result (GoalFault.Plan PlanError.NoBads)
+        → (f : File) × Accepts file.now (2 ^ 24) f × (f.properties.bads ≡ []) }
 {
-    match check_step(alloc, r, LIMIT, k, true, proof) {
+    match check_goal(
+        alloc,
+        LIMIT,
+        Subject::File(FileSubject::Own),
+        Goal::Refuted(k),
+        true,
+        true,
+        &mut [InMemory::new(file)],
+        &mut [InMemory::new(proof)],
+    ) {
         Ok(()) => Ok(true),
-        Err(AnswerError::Refutation(_)) => Ok(false),
-        Err(error) => Err(error),
+        Err(error) => match error.fault {
+            GoalFault::Plan(
+                PlanError::Refused(
+                    Refused {
+                        why: Why::Refutation(_),
+                        ..
+                    },
+                ),
+            ) => Ok(false),
+            fault => Err(fault),
+        },
     }
 }

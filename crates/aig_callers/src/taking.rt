@@ -3,20 +3,18 @@
 
 ghost use Rattle.std.specs.Prelude.{◌≡◌, ◌<◌, ◌^◌, IfErr, IfOk, Some};
 ghost use Rattle.aig_callers.specs.declared.taking.MiterError.TheVariants as errors;
-ghost use Rattle.aig_callers.specs.Taking.{IsBoundedHindrance, IsHindrance, IsOfNoProof, IsProofOf, TakesParts};
-ghost use Rattle.aig_callers.specs.Texts.{AreObligationsOf, IsBoundedTextOf, IsClausesTextOf, IsMiterQueryTextOf, IsMiterTextOf, IsQueryTextOf, IsWindowTextOf};
+ghost use Rattle.aig_callers.specs.Taking.{IsHindrance, IsOfNoProof, IsProofOf, TakesParts};
+ghost use Rattle.aig_callers.specs.Texts.{AreObligationsOf, IsMiterQueryTextOf, IsMiterTextOf, IsQueryTextOf, IsQuestionTextOf};
+ghost use Rattle.aig_answers.specs.Goals.{fault_of, goal_of, last_step};
 
 use crate::laws::joint_files_ask_the_same;
 use crate::shown::{COMPARISON, LIMIT};
-use aig_answers::{
-    AnswerError, BoundedAnswerError, CertificateError, check_bounded, check_certified, check_equal,
-    check_step, check_window,
-};
+use aig_answers::{Goal, GoalError, Question, Window, check_goal, question_clauses_are_one};
 use aig_base::{FromRead, Source};
 use aig_check_commands::{
-    CheckError, print_bounded, print_clauses, print_obligations, print_window,
+    CheckError, print_checked, print_obligations, print_question, printed_clauses_are_checked,
 };
-use aig_command_line::FlushedWriter;
+use aig_command_line::{Discarded, FlushedWriter};
 use aig_edits::{PairError, Pairing, print_joint};
 use aig_format::reads_exactly;
 use aig_join::miters_are_one;
@@ -24,7 +22,7 @@ use aig_refutation::{
     ordered_rat_refutations_are_taken, written_numbered_proofs_are_taken,
     written_plain_proofs_are_taken, written_proofs_are_taken,
 };
-use aig_runs::Window;
+use aig_subjects::{FileSubject, Subject};
 use aig_tool_commands::{Command, ToolError, run};
 use std::alloc::Global;
 
@@ -35,28 +33,35 @@ fn source_of<'a>(bytes: &'a [u8]) -> FromRead<&'a [u8]>
     FromRead::new(bytes)
 }
 
-/// What `clauses FILE K` prints, where FILE has these bytes.
-fn clauses_text(alloc: Global, file: &[u8], k: usize, optimize: bool) -> Result<Vec<u8>, CheckError>
-    requires { k < 2 ^ 32 }
-    ensures { IfOk result (λ text. IsClausesTextOf k optimize file.now text.items) }
+/// What `clauses FILE K`, `window FILE K` or `bounded FILE K` prints, where FILE has these bytes.
+fn question_text(alloc: Global, file: &[u8], question: Question) -> Result<Vec<u8>, CheckError>
+    requires { last_step (goal_of question.ask) < 2 ^ 32 }
+    ensures { IfOk result (λ text. IsQuestionTextOf question file.now text.items) }
 {
     let mut out = FlushedWriter::new(Vec::new(alloc));
-    print_clauses(alloc, LIMIT, k, optimize, source_of(file), &mut out)?;
+    print_question(
+        alloc,
+        LIMIT,
+        FileSubject::Own,
+        question,
+        source_of(file),
+        &mut out,
+    )?;
     Ok(out.into_inner())
 }
 
-/// What `clauses FILE K` prints, and the answer of `refuted FILE K PROOF`.
+/// What `clauses FILE K` prints, and the answer of `refuted FILE K PROOF`; of a window, what `window FILE K` prints, and the answer of
+/// `inductive FILE K PROOF`; and of the first steps, what `bounded FILE K` prints, and the answer of `refuted FILE to K PROOF`.
 ///
 /// A proof of just the clauses that are printed, of the same setting, is taken, unless memory runs out or a read fails.
-pub fn taken_at_step(
+pub fn taken_of_question(
     alloc: Global,
     file: &[u8],
-    k: usize,
-    optimize: bool,
+    question: Question,
     proof: &[u8],
-) -> Result<(Vec<u8>, Result<(), AnswerError>), CheckError>
-    requires { k < 2 ^ 32 }
-    ensures printed { IfOk result (λ made. IsClausesTextOf k optimize file.now made.0.items) }
+) -> Result<(Vec<u8>, Result<(), CheckError>), CheckError>
+    requires { last_step (goal_of question.ask) < 2 ^ 32 }
+    ensures printed { IfOk result (λ made. IsQuestionTextOf question file.now made.0.items) }
     ensures taken { IfOk result
         (λ made. IsProofOf made.0.items proof.now → IfErr made.1 IsHindrance) }
 {
@@ -65,82 +70,22 @@ pub fn taken_at_step(
     written_numbered_proofs_are_taken();
     ordered_rat_refutations_are_taken();
     written_plain_proofs_are_taken();
-    let text = clauses_text(alloc, file, k, optimize)?;
-    let (file, proof) = (&mut source_of(file), &mut source_of(proof));
-    let answer = check_step(alloc, file, LIMIT, k, optimize, proof);
-    Ok((text, answer))
-}
-
-/// What `window FILE K` prints, where FILE has these bytes.
-fn window_text(
-    alloc: Global,
-    file: &[u8],
-    k: usize,
-    form: Window,
-    optimize: bool,
-) -> Result<Vec<u8>, CheckError>
-    requires { k < 2 ^ 32 }
-    ensures { IfOk result (λ text. IsWindowTextOf form k optimize file.now text.items) }
-{
-    let mut out = FlushedWriter::new(Vec::new(alloc));
-    print_window(alloc, LIMIT, k, form, optimize, source_of(file), &mut out)?;
-    Ok(out.into_inner())
-}
-
-/// What `window FILE K` prints, and the answer of `inductive FILE K PROOF`. A proof of just these clauses is taken, as before.
-pub fn taken_of_window(
-    alloc: Global,
-    file: &[u8],
-    k: usize,
-    form: Window,
-    optimize: bool,
-    proof: &[u8],
-) -> Result<(Vec<u8>, Result<(), AnswerError>), CheckError>
-    requires { k < 2 ^ 32 }
-    ensures printed { IfOk result (λ made. IsWindowTextOf form k optimize file.now made.0.items) }
-    ensures taken { IfOk result
-        (λ made. IsProofOf made.0.items proof.now → IfErr made.1 IsHindrance) }
-{
-    reads_exactly();
-    written_proofs_are_taken();
-    written_numbered_proofs_are_taken();
-    ordered_rat_refutations_are_taken();
-    written_plain_proofs_are_taken();
-    let text = window_text(alloc, file, k, form, optimize)?;
-    let (file, proof) = (&mut source_of(file), &mut source_of(proof));
-    let answer = check_window(alloc, file, LIMIT, k, optimize, form, proof);
-    Ok((text, answer))
-}
-
-/// What `bounded FILE K` prints, where FILE has these bytes.
-fn bounded_text(alloc: Global, file: &[u8], k: usize, optimize: bool) -> Result<Vec<u8>, CheckError>
-    ensures { IfOk result (λ text. IsBoundedTextOf k optimize file.now text.items) }
-{
-    let mut out = FlushedWriter::new(Vec::new(alloc));
-    print_bounded(alloc, LIMIT, k, optimize, source_of(file), &mut out)?;
-    Ok(out.into_inner())
-}
-
-/// What `bounded FILE K` prints, and the answer of `refuted FILE to K PROOF`. A proof of just these clauses is taken, as before.
-pub fn taken_up_to_step(
-    alloc: Global,
-    file: &[u8],
-    k: usize,
-    optimize: bool,
-    proof: &[u8],
-) -> Result<(Vec<u8>, Result<(), BoundedAnswerError>), CheckError>
-    ensures printed { IfOk result (λ made. IsBoundedTextOf k optimize file.now made.0.items) }
-    ensures taken { IfOk result
-        (λ made. IsProofOf made.0.items proof.now → IfErr made.1 IsBoundedHindrance) }
-{
-    reads_exactly();
-    written_proofs_are_taken();
-    written_numbered_proofs_are_taken();
-    ordered_rat_refutations_are_taken();
-    written_plain_proofs_are_taken();
-    let text = bounded_text(alloc, file, k, optimize)?;
-    let (file, proof) = (&mut source_of(file), &mut source_of(proof));
-    let answer = check_bounded(alloc, file, LIMIT, k, optimize, proof);
+    printed_clauses_are_checked();
+    let text = question_text(alloc, file, question)?;
+    let (goal, optimize) = (Goal::of(question.ask), question.optimize);
+    let mut files = [source_of(file)];
+    let mut proofs = [source_of(proof)];
+    let answer = print_checked(
+        alloc,
+        LIMIT,
+        Subject::File(FileSubject::Own),
+        goal,
+        optimize,
+        optimize,
+        &mut files,
+        &mut proofs,
+        &mut Discarded,
+    );
     Ok((text, answer))
 }
 
@@ -169,7 +114,7 @@ pub fn taken_of_certificate(
     optimize: bool,
     base: &[u8],
     step: &[u8],
-) -> Result<(Vec<u8>, Result<(), CertificateError>), CheckError>
+) -> Result<(Vec<u8>, Result<(), GoalError>), CheckError>
     ensures printed { IfOk result
         (λ made. AreObligationsOf optimize file.now certificate.now made.0.items) }
     ensures taken { IfOk result (λ made. TakesParts made.0.items base.now step.now made.1) }
@@ -179,10 +124,18 @@ pub fn taken_of_certificate(
     written_numbered_proofs_are_taken();
     ordered_rat_refutations_are_taken();
     written_plain_proofs_are_taken();
+    question_clauses_are_one();
     let text = obligations_text(alloc, file, certificate, optimize)?;
-    let (file, certificate) = (&mut source_of(file), &mut source_of(certificate));
-    let (base, step) = (&mut source_of(base), &mut source_of(step));
-    let answer = check_certified(alloc, file, certificate, LIMIT, optimize, base, step);
+    let answer = check_goal(
+        alloc,
+        LIMIT,
+        Subject::Certified(FileSubject::Own),
+        Goal::SafeBySteps(0, Window::Plain),
+        optimize,
+        optimize,
+        &mut [source_of(file), source_of(certificate)],
+        &mut [source_of(base), source_of(step)],
+    );
     Ok((text, answer))
 }
 
@@ -251,11 +204,12 @@ pub fn taken_as_equal(
     k: usize,
     optimize: bool,
     proof: &[u8],
-) -> Result<(Vec<u8>, Result<(), CertificateError>), MiterError>
+) -> Result<(Vec<u8>, Result<(), GoalError>), MiterError>
+    requires { k < 2 ^ 32 }
     ensures printed { IfOk result
         (λ made. IsMiterQueryTextOf k optimize file.now other.now made.0.items) }
     ensures taken { IfOk result
-        (λ made. IsProofOf made.0.items proof.now → IfErr made.1 IsOfNoProof) }
+        (λ made. IsProofOf made.0.items proof.now → IfErr (fault_of made.1) IsOfNoProof) }
 {
     reads_exactly();
     written_proofs_are_taken();
@@ -266,16 +220,15 @@ pub fn taken_as_equal(
     joint_files_ask_the_same();
     let miter = miter_text(alloc, file, other)?;
     let text = query_text(alloc, miter.as_slice(), k, optimize)?;
-    let (file, other) = (&mut source_of(file), &mut source_of(other));
-    let answer = check_equal(
+    let answer = check_goal(
         alloc,
-        file,
-        other,
-        COMPARISON,
         LIMIT,
-        k,
+        Subject::Miter(COMPARISON),
+        Goal::Refuted(k),
         optimize,
-        &mut source_of(proof),
+        optimize,
+        &mut [source_of(file), source_of(other)],
+        &mut [source_of(proof)],
     );
     Ok((text, answer))
 }

@@ -6,6 +6,7 @@ mod answers;
 mod binary_proofs;
 mod certificates;
 mod examples;
+mod goals;
 mod sample;
 mod simulated;
 mod streams;

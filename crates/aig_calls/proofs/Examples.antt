@@ -1,9 +1,17 @@
 -- Statuses of errors, numbers of clauses and what calls leave in the caller's memory, computed; and
 -- wrong ones, of which the definitions are false.
-use Rattle.aig_calls.proofs.Words.{◌≡◌, ◌≢◌, ℕ, ◌<◌, ◌^◌, true, false, Some, Ok, Err, Result, List, [], ◌∷◌, codes, slice_index, refl, sym, ap, ◌∙◌, arith, same_Some, ℤ, pos, negsuc, lit_to, Base, Step, ChecksAt, GivesItems, GivesListing, IsGiven, Prints, TellsBad, TellsLasso, form_of, Writer, held, clause_numbers, dimacs_number}
+use Rattle.aig_calls.proofs.Words.{◌≡◌, ◌≢◌, ℕ, ◌<◌, ◌^◌, true, false, Some, Ok, Err, Result, List, [], ◌∷◌, codes, slice_index, refl, sym, ap, ◌∙◌, arith, same_Some, ℤ, pos, negsuc, lit_to, Base, Step, AtStep, Bool, LIMIT, GivesItems, GivesListing, IsGiven, Prints, TellsBad, TellsLasso, form_of, Writer, held, clause_numbers, dimacs_number}
 use Rattle.aig_answers.specs.declared.error.AnswerError.{AnswerError}
 use Rattle.aig_answers.specs.declared.error.AnswerError.TheVariants as answers
-use Rattle.aig_answers.specs.declared.safety.error.SafetyError.TheVariants as safety
+use Rattle.aig_answers.specs.Goals.{ChecksGoal}
+use Rattle.aig_answers.specs.declared.goals.error.GoalFault.TheVariants as goal_faults
+use Rattle.aig_answers.specs.declared.goals.goal.Goal.{Goal}
+use Rattle.aig_answers.specs.declared.goals.goal.Goal.TheVariants as goals
+use Rattle.aig_answers.specs.declared.plans.errors.PlanError.TheVariants as plans
+use Rattle.aig_answers.specs.declared.plans.errors.Why.TheVariants as whys
+use Rattle.aig_calls.specs.Checking.{none_fails}
+use Rattle.aig_calls.specs.declared.pairs.TheConstants.{COMPARISON}
+use Rattle.aig_edits.specs.declared.edit_error.EditError.TheVariants as edit
 use Rattle.aig_edits.specs.declared.pair_error.PairError.TheVariants as pair
 use Rattle.aig_reader.specs.declared.error.ReadError.TheVariants as read
 use Rattle.aig_reader.specs.declared.error.Section.TheVariants as section
@@ -11,12 +19,16 @@ use Rattle.aig_refutation.specs.declared.error.RefutationError.TheVariants as re
 use Rattle.aig_runs.specs.declared.window.Window.TheVariants.{Distinct, Plain}
 use Rattle.aig_simulated.specs.declared.error.ConditionError.TheVariants as conditions
 use Rattle.aig_simulated.specs.declared.error.SimulationError.TheVariants as simulation
+use Rattle.aig_subjects.specs.declared.error.SubjectError.TheVariants as subject_errors
+use Rattle.aig_subjects.specs.declared.subject.FileSubject.TheVariants.{Live, Own}
+use Rattle.aig_subjects.specs.declared.subject.Subject.{Subject}
+use Rattle.aig_subjects.specs.declared.subject.Subject.TheVariants as subjects
 use Rattle.aig_witness.specs.declared.fair.file.ClaimError.TheVariants as claims
 use Rattle.aig_witness.specs.declared.fair.file.ShownProperty.TheVariants as properties
 use Rattle.aig_witness.specs.declared.fault.WitnessFault.TheVariants as faults
 use Rattle.aig_witness.specs.declared.file.ShowError.TheVariants as shows
 use Rattle.aig_witness.specs.declared.file.Shown.{Shown}
-use Rattle.aig_calls.specs.Statuses.{answer_status, claim_status, done, made_status, many_steps, pair_status, read_status, safety_status, show_status, simulation_status, small, status_by}
+use Rattle.aig_calls.specs.Statuses.{answer_status, claim_status, done, goal_status, many_steps, pair_status, read_status, show_status, simulation_status, small}
 
 -- ---- statuses
 
@@ -49,10 +61,36 @@ no_flag_of_base :
     ≢ simulation_status (simulation.Condition Base (conditions.Refutation refutation.Line))
 no_flag_of_base is = let status : 4137 ≡ 2089 = is in omega (arith, status)
 
--- a window of two files is refused as one of a file
-no_window_of_file : made_status (safety.File answers.NoBads)
-    ≢ safety_status (safety.File answers.NoBads)
+-- the window of what is made of a file is refused as one of the file
+no_window_of_file :
+    goal_status (subjects.File (Live 0)) (goals.Safe 3 Plain) (goal_faults.Plan plans.NoBads)
+    ≢ goal_status (subjects.File Own) (goals.Safe 3 Plain) (goal_faults.Plan plans.NoBads)
 no_window_of_file is = let status : 1030 ≡ 6 = is in omega (arith, status)
+
+-- a bad line of a proof of one of two questions is told as one of the other
+abbrev line_of : Subject → Goal → ℕ → ℕ
+line_of subject goal i =
+    goal_status subject goal (goal_faults.Plan (plans.Refused (record {
+      index = i;
+      why = whys.Refutation refutation.Line;
+    })))
+
+proof-statuses : (line_of (subjects.File Own) (goals.Safe 3 Plain) 0 ≡ 2089)
+    × (line_of (subjects.Certified Own) (goals.SafeBySteps 0 Plain) 1 ≡ 1065)
+    × (line_of (subjects.MiterCertified COMPARISON) (goals.SafeBySteps 0 Plain) 0 ≡ 8745)
+proof-statuses = (refl, refl, refl)
+
+no_base_for_step : line_of (subjects.Miter COMPARISON) (goals.Safe 3 Plain) 1
+    ≢ line_of (subjects.Miter COMPARISON) (goals.Safe 3 Plain) 0
+no_base_for_step is = let status : 4137 ≡ 2089 = is in omega (arith, status)
+
+-- a certificate of a miter is refused as the second file
+no_file_for_certificate : (goal : Goal)
+    → goal_status (subjects.MiterCertified COMPARISON) goal
+    (goal_faults.Subject (subject_errors.Certificate (pair.Other read.Header)))
+    ≢ goal_status (subjects.MiterCertified COMPARISON) goal
+    (goal_faults.Subject (subject_errors.Pair (pair.Other read.Header)))
+no_file_for_certificate goal is = let status : 8458 ≡ 266 = is in omega (arith, status)
 
 -- why a witness of a bad state shows none is told where one of a lasso is wanted
 no_fault_told : claim_status (claims.Show (shows.Check faults.Latches))
@@ -158,15 +196,20 @@ distinct-form : (form_of true ≡ Distinct) × (form_of false ≡ Plain)
 distinct-form = (refl, refl)
 
 -- step 2^32 is answered, and the one before it is refused
-abbrev IsDone : Result Unit AnswerError → Type 0
-IsDone result = result ≡ Ok tt
-
-no_answer_past_steps : ¬ ChecksAt (2 ^ 32) answer_status IsDone done
+no_answer_past_steps : ¬ AtStep (2 ^ 32) done (Unit {0}) (Unit {0})
 no_answer_past_steps told =
     let status : 0 ≡ 4 = (told.0 (omega arith)).0 in omega (arith, status)
 
-no_refusal_below : ¬ ChecksAt 4294967295 answer_status IsDone many_steps
-no_refusal_below told =
-    let below = told.1 (omega arith) in
-    let status : 4 ≡ 0 = below.2 ∙ ap (status_by answer_status) below.1 in
-    omega (arith, status)
+no_refusal_below : ¬ AtStep 4294967295 many_steps (Unit {0}) (many_steps ≡ done)
+no_refusal_below told = let status : 4 ≡ 0 = told.1 (omega arith) in omega (arith, status)
+
+-- ---- checks
+
+-- a read of a file's bytes, which lie in memory, is said to have failed
+no_read_fails : (goal : Goal) (base step : Bool) (file rest : List ℕ)
+    (proofs others : List (List ℕ))
+    → ¬ ChecksGoal Some none_fails Some none_fails LIMIT (subjects.File Own) goal base step
+    (file ∷ []) proofs
+    (Err (goal_faults.Subject (subject_errors.File (edit.Read read.Stream)))) (rest ∷ []) others
+no_read_fails goal base step file rest proofs others told =
+    let failed : false ≡ true = told.reads.reads.0.stream refl in cc

@@ -1,9 +1,7 @@
 -- What is done with readers and writers of the caller's memory is done with its bytes.
-use Rattle.aig_calls.proofs.Words.{Bor, ◌≡◌, ℕ, ◌<◌, ◌≤◌, ◌^◌, Bool, List, [], Option, Some, Result, Ok, Err, Vec, Global, refl, sym, ap, fun_ext, ◌∙◌, arith, IfOk, Proofs, proof_for, proofs_of, Condition, AtStep, Prints, text_in, On, Reader, Writer, bytes_of}
+use Rattle.aig_calls.proofs.Words.{Bor, ◌≡◌, ℕ, ◌<◌, ◌≤◌, ◌^◌, Bool, List, [], Option, Some, Result, Ok, Err, Vec, Global, refl, sym, ap, ◌∙◌, arith, AtStep, Prints, text_in, On, Reader, Writer, bytes_of}
 use Rattle.aig_format.proofs.Words.{File}
-use Rattle.aig_reader.specs.Reading.{IsReadAs}
 use Rattle.aig_reader.specs.Verdicts.{Accepted, Judges, Short, Verdict}
-use Rattle.aig_simulation.specs.declared.condition.Condition.TheVariants as conditions
 
 -- something is done with a reader of these bytes
 pub on : (r rest : Reader) {bytes : Bor (List ℕ)} {Does : Reader → Reader → Type 0}
@@ -45,42 +43,3 @@ short taken = record {
   whole = λ is. taken.whole tt;
   stream = λ is. cc;
 }
-
--- of the file that is read, more follows
-pub also : {T E : Type 0} (Holds : List ℕ → File → Type 0) {P Q : File → Type 0}
-    (old new : Option (List ℕ)) (result : Result T E) → ((f : File) → P f → Q f)
-    → IfOk result (IsReadAs Holds (λ f x. P f) old new)
-    → IfOk result (IsReadAs Holds (λ f x. Q f) old new)
-also Holds old new (Ok x) so read = record {
-  bytes = read.bytes;
-  file = read.file;
-  taken = read.taken;
-  holds = read.holds;
-  means = so read.file read.means;
-}
-also Holds old new (Err e) so read = tt
-
--- the texts of proofs: what their readers have left, or what is known
-abbrev left_of : Proofs Reader → Condition → Option (List ℕ)
-left_of proofs condition = bytes_of (proof_for proofs condition)
-
-abbrev known : Proofs (List ℕ) → Condition → Option (List ℕ)
-known proofs condition = Some (proof_for proofs condition)
-
--- they are the bytes that the readers are of
-pub texts_of : (a b c d e : Reader) {v w x y z : Bor (List ℕ)} → a.inner ≡ v → b.inner ≡ w
-    → c.inner ≡ x → d.inner ≡ y → e.inner ≡ z
-    → left_of (proofs_of a b c d e) ≡ known (proofs_of v.now w.now x.now y.now z.now)
-texts_of a b c d e {v} {w} {x} {y} {z} for_a for_b for_c for_d for_e = fun_ext each
-  where
-    text : Bor (List ℕ) → Option (List ℕ)
-    text bytes = Some bytes.now
-
-    each : (condition : Condition)
-        → left_of (proofs_of a b c d e) condition
-        ≡ known (proofs_of v.now w.now x.now y.now z.now) condition
-    each conditions.Reset = ap text for_a
-    each conditions.Transition = ap text for_b
-    each conditions.Property = ap text for_c
-    each conditions.Base = ap text for_d
-    each conditions.Step = ap text for_e

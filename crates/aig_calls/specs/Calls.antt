@@ -2,12 +2,15 @@
 -- What a call does, by the bytes that it is given: what the program's command, or the library's
 -- call, of the same name does with them, a status for its result, and what is left in the caller's
 -- memory.
-use Rattle.std.specs.Prelude.{◌≡◌, ℕ, ◌<◌, ◌≤◌, ◌^◌, ◌++◌, if◌then◌else◌, Bool, List, length, drop, Option, Some, Result, Ok, Err, IfErr, IfOk, ℤ}
+use Rattle.std.specs.Prelude.{◌≡◌, ℕ, ◌<◌, ◌≤◌, ◌^◌, ◌++◌, if◌then◌else◌, Bool, List, length, drop, Option, None, Some, Result, Ok, Err, IfErr, IfOk, ℤ}
 use Rattle.aig_answers.specs.Answers as answering
 use Rattle.aig_answers.specs.Answers.{IsAsked, IsOfQuery, asked_verdict}
 use Rattle.aig_answers.specs.declared.error.AnswerError.{AnswerError}
 use Rattle.aig_check_commands.specs.Pairs.{RunsPair}
-use Rattle.aig_check_commands.specs.Running.{Runs, nothing_fails, nothing_given}
+use Rattle.aig_answers.specs.declared.plans.asking.Question.{Question}
+use Rattle.aig_check_commands.specs.Questions.{RunsQuestion}
+use Rattle.aig_subjects.specs.declared.subject.FileSubject.TheVariants as file_subjects
+use Rattle.aig_check_commands.specs.Running.{Runs}
 use Rattle.aig_check_commands.specs.declared.command.FileCommand.{FileCommand}
 use Rattle.aig_check_commands.specs.declared.command.PairCommand.{PairCommand}
 use Rattle.aig_check_commands.specs.declared.error.CheckError.{CheckError}
@@ -43,7 +46,7 @@ use Rattle.aig_witness.specs.declared.file.ShowError.{ShowError}
 use Rattle.aig_witness.specs.declared.file.Shown.{Shown}
 use Rattle.aig_calls.specs.Numbers.{IsListing, Listing}
 use Rattle.aig_calls.specs.Memory.{Into, On, Reader, Writer, bytes_of, has_failed, held, write_failed}
-use Rattle.aig_calls.specs.Statuses.{answer_status, claim_status, done, many_steps, show_status, small, status_by, witness_bad}
+use Rattle.aig_calls.specs.Statuses.{answer_status, claim_status, done, many_steps, show_status, small, witness_bad}
 
 -- ---- words
 
@@ -59,14 +62,14 @@ RunsTool limit c file result w made =
     On file (λ r rest.
     tool.Runs bytes_of has_failed held write_failed c limit r w result rest made)
 
--- a command of `aigcheck` was
-abbrev pub RunsAlone : ℕ → FileCommand → List ℕ → Result Unit CheckError → Writer → Writer → Type 0
-RunsAlone limit c file result w made =
+-- a question's clauses were printed of them
+abbrev pub RunsClauses : ℕ → Question → List ℕ → Result Unit CheckError → Writer → Writer → Type 0
+RunsClauses limit q file result w made =
     On file (λ r rest.
-    Runs bytes_of has_failed nothing_given nothing_fails held write_failed c limit r tt w result
-    rest tt made)
+    RunsQuestion bytes_of has_failed held write_failed limit file_subjects.Own q r w result rest
+    made)
 
--- and on those that are given beside them
+-- a command of `aigcheck` was run on them and on those that are given beside them
 abbrev pub RunsOn : ℕ → FileCommand → List ℕ → List ℕ → Result Unit CheckError → Writer → Writer
     → Type 0
 RunsOn limit c file given result w made =
@@ -79,8 +82,8 @@ abbrev pub RunsOnPair : ℕ → PairCommand → List ℕ → List ℕ → Result
     → Writer → Type 0
 RunsOnPair limit c file other result w made =
     On file (λ r rest. On other (λ s left.
-    RunsPair bytes_of has_failed bytes_of has_failed nothing_given nothing_fails nothing_given
-    nothing_fails held write_failed c limit r s tt tt w result rest left tt tt made))
+    RunsPair bytes_of has_failed bytes_of has_failed held write_failed c limit r s w result rest
+    left made))
 
 -- a call was made that reads these bytes as a file
 abbrev pub Reads : {T E : Type 0} → ℕ → (File → Result T E → Type 0) → (E → Verdict)
@@ -162,10 +165,6 @@ pub record Lists (limit k : ℕ) (optimize : Bool) (r rest : Reader)
 
 -- ---- what is told
 
--- something was done whose result the status says
-abbrev pub Checks : {T E : Type 0} → (E → ℕ) → (Result T E → Type 0) → ℕ → Type 0
-Checks of Does status = (result : Result _ _) × Does result × (status ≡ status_by of result)
-
 -- What an answer of these items leaves in its caller's memory: they are put at its front, and else,
 -- where they don't fit, it stays as it was. `needed` says in both cases how many there are.
 pub record IsGiven {X : Type 0} (status : ℕ) (items old new : List X) (needed : ℕ) : Type 0 where
@@ -225,9 +224,6 @@ Prints Does (Err e) = Into (Does (Err e))
 -- a call for step K refuses a K of 2^32 or more, and then changes nothing
 abbrev pub AtStep : ℕ → ℕ → Type 0 → Type 0 → Type 0
 AtStep k status Kept Does = (2 ^ 32 ≤ k → (status ≡ many_steps) × Kept) × (k < 2 ^ 32 → Does)
-
-abbrev pub ChecksAt : {T E : Type 0} → ℕ → (E → ℕ) → (Result T E → Type 0) → ℕ → Type 0
-ChecksAt k of Does status = AtStep k status (Unit {0}) (Checks of Does status)
 
 abbrev pub GivesAt : {X E : Type 0} → ℕ → (E → ℕ) → (Result (List X) E → Type 0) → ℕ → List X
     → List X → ℕ → ℕ → Type 0

@@ -1,16 +1,22 @@
 -- Part of what is promised.
 -- The number by which a call says how it ended: 0, 1 where the answer doesn't fit the caller's
 -- memory, and else that of its error. `include/aig.h` has them in words.
-use Rattle.std.specs.Prelude.{ℕ, ◌+◌, nat_lt, if◌then◌else◌, Result, Ok, Err}
+use Rattle.std.specs.Prelude.{ℕ, ◌+◌, ◌==◌, nat_lt, if◌then◌else◌, Result, Ok, Err}
 use Rattle.aig_answers.specs.declared.error.AnswerError.{AnswerError}
 use Rattle.aig_answers.specs.declared.error.AnswerError.TheVariants as answers
 use Rattle.aig_bounded.specs.declared.error.BoundedError.TheVariants as questions
 use Rattle.aig_answers.specs.declared.bounded_checks.error.BoundedAnswerError.{BoundedAnswerError}
 use Rattle.aig_answers.specs.declared.bounded_checks.error.BoundedAnswerError.TheVariants as bounded
-use Rattle.aig_answers.specs.declared.certificates.compare_error.MiterError.{MiterError}
-use Rattle.aig_answers.specs.declared.certificates.compare_error.MiterError.TheVariants as miter
 use Rattle.aig_answers.specs.declared.certificates.error.CertificateError.{CertificateError}
 use Rattle.aig_answers.specs.declared.certificates.error.CertificateError.TheVariants as certificate
+use Rattle.aig_answers.specs.declared.goals.error.GoalFault.{GoalFault}
+use Rattle.aig_answers.specs.declared.goals.error.GoalFault.TheVariants as goal_faults
+use Rattle.aig_answers.specs.declared.goals.goal.Goal.{Goal}
+use Rattle.aig_answers.specs.declared.goals.goal.Goal.TheVariants as goals
+use Rattle.aig_answers.specs.declared.plans.errors.PlanError.{PlanError}
+use Rattle.aig_answers.specs.declared.plans.errors.PlanError.TheVariants as plans
+use Rattle.aig_answers.specs.declared.plans.errors.Why.{Why}
+use Rattle.aig_answers.specs.declared.plans.errors.Why.TheVariants as whys
 use Rattle.aig_simulated.specs.declared.error.ConditionError.{ConditionError}
 use Rattle.aig_simulated.specs.declared.error.ConditionError.TheVariants as conditions
 use Rattle.aig_simulated.specs.declared.error.SimulationError.{SimulationError}
@@ -30,22 +36,21 @@ use Rattle.aig_edits.specs.declared.pair_error.PairError.{PairError}
 use Rattle.aig_edits.specs.declared.pair_error.PairError.TheVariants as pair
 use Rattle.aig_encode.specs.declared.error.EncodeError.{EncodeError}
 use Rattle.aig_encode.specs.declared.error.EncodeError.TheVariants as encode
-use Rattle.aig_answers.specs.declared.equality.error.EqualityError.{EqualityError}
-use Rattle.aig_answers.specs.declared.equality.error.EqualityError.TheVariants as equality
 use Rattle.aig_witness.specs.declared.fair.fault.LassoFault.{LassoFault}
 use Rattle.aig_witness.specs.declared.fair.fault.LassoFault.TheVariants as lasso
 use Rattle.aig_witness.specs.declared.fair.file.ClaimError.{ClaimError}
 use Rattle.aig_witness.specs.declared.fair.file.ClaimError.TheVariants as claims
-use Rattle.aig_answers.specs.declared.liveness.error.LivenessError.{LivenessError}
-use Rattle.aig_answers.specs.declared.liveness.error.LivenessError.TheVariants as liveness
 use Rattle.aig_reader.specs.declared.error.ReadError.{ReadError}
 use Rattle.aig_reader.specs.declared.error.ReadError.TheVariants as read
 use Rattle.aig_reader.specs.declared.error.Section.{Section}
 use Rattle.aig_reader.specs.declared.error.Section.TheVariants as section
 use Rattle.aig_refutation.specs.declared.error.RefutationError.{RefutationError}
 use Rattle.aig_refutation.specs.declared.error.RefutationError.TheVariants as refutation
-use Rattle.aig_answers.specs.declared.safety.error.SafetyError.{SafetyError}
-use Rattle.aig_answers.specs.declared.safety.error.SafetyError.TheVariants as safety
+use Rattle.aig_subjects.specs.declared.error.SubjectError.{SubjectError}
+use Rattle.aig_subjects.specs.declared.error.SubjectError.TheVariants as subject_errors
+use Rattle.aig_subjects.specs.declared.subject.FileSubject.TheVariants.{Own}
+use Rattle.aig_subjects.specs.declared.subject.Subject.{Subject}
+use Rattle.aig_subjects.specs.declared.subject.Subject.TheVariants as subjects
 use Rattle.aig_witness.specs.declared.solutions.error.SolutionError.{SolutionError}
 use Rattle.aig_witness.specs.declared.solutions.error.SolutionError.TheVariants as solution
 use Rattle.aig_witness.specs.declared.error.WitnessError.{WitnessError}
@@ -228,38 +233,6 @@ bounded_status (bounded.Question questions.Memory) = memory
 bounded_status (bounded.Refutation e) = refutation_status e
 bounded_status (bounded.Solution e) = solution_status e
 
--- ---- first steps and a window
-
--- the question of the first steps is too large, or its proof is refused
-abbrev pub base_status : BoundedAnswerError → ℕ
-base_status (bounded.Question questions.TooLarge) = 2083
-base_status (bounded.Refutation e) = flagged 2048 (refutation_status e)
-base_status e = memory
-
--- the proof of the window is
-abbrev pub step_status : AnswerError → ℕ
-step_status (answers.Refutation e) = flagged 4096 (refutation_status e)
-step_status e = memory
-
--- a file's machine isn't shown to be safe
-abbrev pub safety_status : SafetyError → ℕ
-safety_status (safety.File e) = answer_status e
-safety_status (safety.Base e) = base_status e
-safety_status (safety.Step e) = step_status e
-
--- nor that of what is made of files, whose window may be refused
-abbrev pub made_status : SafetyError → ℕ
-made_status (safety.File e) = flagged 1024 (answer_status e)
-made_status (safety.Base e) = base_status e
-made_status (safety.Step e) = step_status e
-
--- a justice property isn't shown to have no fair lasso, or no fair run
-abbrev pub live_status : LivenessError → ℕ
-live_status (liveness.Live e) = edit_status e
-live_status (liveness.Query e) = flagged 512 (answer_status e)
-live_status (liveness.Question e) = base_status e
-live_status (liveness.Safety e) = made_status e
-
 -- ---- two files
 
 -- no circuit is made of two files
@@ -277,15 +250,63 @@ certificate_status (certificate.Pair e) = pair_status e
 certificate_status (certificate.Query e) = flagged 512 (answer_status e)
 certificate_status (certificate.Window e) = flagged 1024 (answer_status e)
 
--- their machines aren't shown to be equal at every step
-abbrev pub equality_status : EqualityError → ℕ
-equality_status (equality.Pair e) = pair_status e
-equality_status (equality.Miter e) = made_status e
+-- ---- goals
 
--- nor by a certificate of their miter
-abbrev pub miter_status : MiterError → ℕ
-miter_status (miter.Pair e) = pair_status e
-miter_status (miter.Certificate e) = flagged 8192 (certificate_status e)
+-- the flag of a certificate of a miter, and of its proofs
+abbrev pub certificate_flag : Subject → ℕ
+certificate_flag (subjects.MiterCertified comparison) = 8192
+certificate_flag subject = 0
+
+-- there is no circuit of the subject
+abbrev pub subject_status : Subject → SubjectError → ℕ
+subject_status subject (subject_errors.File e) = edit_status e
+subject_status subject (subject_errors.Pair e) = pair_status e
+subject_status subject (subject_errors.Certificate e) =
+    flagged (certificate_flag subject) (pair_status e)
+
+-- a question isn't shown to hold
+abbrev pub why_status : Why → ℕ
+why_status (whys.Clauses questions.TooLarge) = 35
+why_status (whys.Clauses questions.Memory) = memory
+why_status (whys.Refutation e) = refutation_status e
+
+-- the flag of the question at a place of the plan: of two proofs that of the first or the second,
+-- and none of a question of the file's own circuit that is alone
+abbrev pub question_flag : Subject → Goal → ℕ → ℕ
+question_flag subject (goals.Safe k form) i = if i == 0 then 2048 else 4096
+question_flag subject (goals.SafeBySteps k form) i = if i == 0 then 512 else 1024
+question_flag (subjects.File Own) goal i = 0
+question_flag subject (goals.RefutedTo k) i = 2048
+question_flag subject goal i = 512
+
+-- the flag of a plan for which there is no room: that of the window, if there are first steps, and
+-- none where the file's own circuit is too large
+abbrev pub room_flag : Subject → Goal → ℕ → ℕ
+room_flag (subjects.File Own) goal i = 0
+room_flag subject (goals.Safe k form) i = 1024
+room_flag subject goal i = question_flag subject goal i
+
+-- the circuit has more nodes than the limit: as its further steps have, where some are asked about
+abbrev pub nodes_status : Goal → ℕ
+nodes_status (goals.RefutedTo k) = 35
+nodes_status (goals.Safe k form) = 5
+nodes_status goal = 11
+
+-- the plan isn't shown to hold
+abbrev pub plan_status : Subject → Goal → PlanError → ℕ
+plan_status subject goal plans.TooMany = room_flag subject goal 0 + nodes_status goal
+plan_status subject goal (plans.TooLarge i) = room_flag subject goal i + 5
+plan_status subject goal plans.NoBads = room_flag subject goal 0 + 6
+plan_status subject goal (plans.Crowded i) = room_flag subject goal i + 7
+plan_status subject goal (plans.Refused e) =
+    flagged (question_flag subject goal e.index) (why_status e.why)
+
+-- a goal isn't shown of a subject
+abbrev pub goal_status : Subject → Goal → GoalFault → ℕ
+goal_status subject goal (goal_faults.Subject e) = subject_status subject e
+goal_status subject goal goal_faults.Memory = memory
+goal_status subject goal (goal_faults.Plan e) =
+    flagged (certificate_flag subject) (plan_status subject goal e)
 
 -- ---- a witness circuit
 
@@ -331,9 +352,7 @@ check_status (checks.Solution e) = solution_status e
 check_status (checks.Show e) = show_status e
 check_status (checks.Lasso e) = lasso_status e
 check_status (checks.Bounded e) = bounded_status e
-check_status (checks.Goal e) = memory
+check_status (checks.Goal e) = goal_status e.subject e.goal e.fault
 check_status (checks.Certificate e) = certificate_status e
-check_status (checks.Equality e) = equality_status e
-check_status (checks.Miter e) = miter_status e
 check_status (checks.Unmade e) = edit_status e
 check_status (checks.Simulation e) = simulation_status e

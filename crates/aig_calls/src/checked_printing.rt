@@ -1,17 +1,41 @@
 //! Calls that give what a command of `aigcheck` prints of a file.
 
+ghost use Rattle.std.specs.Prelude.{◌<◌, ◌^◌};
+ghost use Rattle.aig_answers.specs.Plans.{asked_with};
+ghost use Rattle.aig_answers.specs.declared.plans.asking.Ask.TheVariants as asks;
+ghost use Rattle.aig_answers.specs.Goals.{goal_of, last_step};
 ghost use Rattle.aig_check_commands.specs.declared.command.FileCommand.TheVariants as commands;
-ghost use Rattle.aig_calls.specs.Calls.{GivesAt, Prints, RunsAlone, RunsOn, form_of};
+ghost use Rattle.aig_calls.specs.Calls.{GivesAt, GivesResult, Prints, RunsClauses, RunsOn, form_of};
 ghost use Rattle.aig_calls.specs.Statuses.{check_status};
 
 use crate::buffer::put;
 use crate::steps::{step_of, window_form};
+use aig_answers::{Ask, Question};
 use aig_base::{FromRead, ToWrite};
-use aig_check_commands::{
-    print_bounded, print_clauses, print_window, print_witness, print_witness_to,
-};
+use aig_check_commands::{print_question, print_witness, print_witness_to};
+use aig_subjects::FileSubject;
 use aig_tool_commands::LIMIT;
 use std::alloc::Global;
+
+/// Gives the clauses of a question of a file's circuit, in DIMACS form and behind their title.
+fn print(
+    alloc: Global,
+    file: &[u8],
+    ask: Ask,
+    optimize: bool,
+    out: &mut [u8],
+    needed: &mut usize,
+) -> u32
+    requires { last_step (goal_of ask) < 2 ^ 32 }
+    ensures { GivesResult check_status (Prints (RunsClauses LIMIT (asked_with optimize ask)
+        file.now)) result out.old out.new needed.old needed.new }
+{
+    let question = Question { ask, optimize };
+    let source = FromRead::new(file);
+    let mut sink = ToWrite::new(Vec::new(alloc));
+    let done = print_question(alloc, LIMIT, FileSubject::Own, question, source, &mut sink);
+    put(done, sink, out, needed)
+}
 
 /// The clauses of the query of a file for step `k`, in DIMACS form. Before them stand their title, with the SHA-256 sum of the file, and
 /// comments that say which literals stand for its inputs, latches and bad state properties.
@@ -24,16 +48,11 @@ pub extern "C" fn aig_clauses(
     out: &mut [u8],
     needed: &mut usize,
 ) -> u32
-    ensures { GivesAt k check_status (Prints (RunsAlone LIMIT (commands.Clauses k optimize)
+    ensures { GivesAt k check_status (Prints (RunsClauses LIMIT (asked_with optimize (asks.Step k))
         file.now)) result out.old out.new needed.old needed.new }
 {
     match step_of(k) {
-        Ok(k) => {
-            let source = FromRead::new(file);
-            let mut sink = ToWrite::new(Vec::new(alloc));
-            let done = print_clauses(alloc, LIMIT, k, optimize, source, &mut sink);
-            put(done, sink, out, needed)
-        }
+        Ok(k) => print(alloc, file, Ask::Step(k), optimize, out, needed),
         Err(status) => status,
     }
 }
@@ -50,16 +69,14 @@ pub extern "C" fn aig_window(
     out: &mut [u8],
     needed: &mut usize,
 ) -> u32
-    ensures { GivesAt k check_status (Prints (RunsAlone LIMIT (commands.Window k (form_of
-        distinct) optimize) file.now)) result out.old out.new needed.old needed.new }
+    ensures { GivesAt k check_status (Prints (RunsClauses LIMIT
+        (asked_with optimize (asks.Window k (form_of distinct))) file.now)) result out.old out.new
+        needed.old needed.new }
 {
     match step_of(k) {
         Ok(k) => {
-            let source = FromRead::new(file);
-            let form = window_form(distinct);
-            let mut sink = ToWrite::new(Vec::new(alloc));
-            let done = print_window(alloc, LIMIT, k, form, optimize, source, &mut sink);
-            put(done, sink, out, needed)
+            let ask = Ask::Window(k, window_form(distinct));
+            print(alloc, file, ask, optimize, out, needed)
         }
         Err(status) => status,
     }
@@ -76,16 +93,11 @@ pub extern "C" fn aig_bounded(
     out: &mut [u8],
     needed: &mut usize,
 ) -> u32
-    ensures { GivesAt k check_status (Prints (RunsAlone LIMIT (commands.Bounded k optimize)
+    ensures { GivesAt k check_status (Prints (RunsClauses LIMIT (asked_with optimize (asks.UpTo k))
         file.now)) result out.old out.new needed.old needed.new }
 {
     match step_of(k) {
-        Ok(k) => {
-            let source = FromRead::new(file);
-            let mut sink = ToWrite::new(Vec::new(alloc));
-            let done = print_bounded(alloc, LIMIT, k, optimize, source, &mut sink);
-            put(done, sink, out, needed)
-        }
+        Ok(k) => print(alloc, file, Ask::UpTo(k), optimize, out, needed),
         Err(status) => status,
     }
 }

@@ -1,15 +1,16 @@
 //! Calls that check proofs about a file.
 
-ghost use Rattle.aig_calls.specs.Calls.{ChecksAt, form_of};
-ghost use Rattle.aig_calls.specs.Checking.{ChecksBounded, ChecksSafe, ChecksStep, ChecksWindow};
-ghost use Rattle.aig_calls.specs.Statuses.{answer_status, bounded_status, safety_status};
+ghost use Rattle.std.specs.Prelude.{◌∷◌, []};
+ghost use Rattle.aig_answers.specs.declared.goals.goal.Goal.TheVariants as goals;
+ghost use Rattle.aig_subjects.specs.declared.subject.FileSubject.TheVariants.{Live, Own};
+ghost use Rattle.aig_subjects.specs.declared.subject.Subject.TheVariants as subjects;
+ghost use Rattle.aig_calls.specs.Calls.{form_of};
+ghost use Rattle.aig_calls.specs.Checking.{ChecksBytes};
 
-use crate::status::status_of;
-use crate::steps::{step_of, window_form};
-use aig_answers::{check_bounded, check_safe, check_step, check_window};
-use aig_base::FromRead;
-use aig_runs::inductive_windows_are_safe;
-use aig_tool_commands::LIMIT;
+use crate::goals::{check_proof, check_proofs};
+use crate::steps::window_form;
+use aig_answers::Goal;
+use aig_subjects::FileSubject;
 use std::alloc::Global;
 
 /// Checks a proof, in LRAT or DRAT, that the clauses of a file's query for step `k` can't be satisfied: then no run of its machine
@@ -22,19 +23,11 @@ pub extern "C" fn aig_check_refuted(
     optimize: bool,
     proof: &[u8],
 ) -> u32
-    ensures { ChecksAt k answer_status (ChecksStep LIMIT k optimize file.now proof.now) result }
+    ensures { ChecksBytes (subjects.File Own) (goals.Refuted k) optimize optimize (file.now ∷ [])
+        (proof.now ∷ []) result }
 {
-    match step_of(k) {
-        Ok(k) => status_of(check_step(
-            alloc,
-            &mut FromRead::new(file),
-            LIMIT,
-            k,
-            optimize,
-            &mut FromRead::new(proof),
-        )),
-        Err(status) => status,
-    }
+    let goal = Goal::Refuted(k as usize);
+    check_proof(alloc, FileSubject::Own, goal, optimize, file, proof)
 }
 
 /// Checks a proof, in LRAT or DRAT, that the clauses of a file's question up to step `k` can't be satisfied: then no run of its
@@ -47,19 +40,11 @@ pub extern "C" fn aig_check_refuted_to(
     optimize: bool,
     proof: &[u8],
 ) -> u32
-    ensures { ChecksAt k bounded_status (ChecksBounded LIMIT k optimize file.now proof.now) result }
+    ensures { ChecksBytes (subjects.File Own) (goals.RefutedTo k) optimize optimize (file.now ∷ [])
+        (proof.now ∷ []) result }
 {
-    match step_of(k) {
-        Ok(k) => status_of(check_bounded(
-            alloc,
-            &mut FromRead::new(file),
-            LIMIT,
-            k,
-            optimize,
-            &mut FromRead::new(proof),
-        )),
-        Err(status) => status,
-    }
+    let goal = Goal::RefutedTo(k as usize);
+    check_proof(alloc, FileSubject::Own, goal, optimize, file, proof)
 }
 
 /// Checks a proof, in LRAT or DRAT, that the clauses of a window of `k + 2` steps of a file's machine can't be satisfied: then no
@@ -73,22 +58,11 @@ pub extern "C" fn aig_check_inductive(
     optimize: bool,
     proof: &[u8],
 ) -> u32
-    ensures { ChecksAt k answer_status (ChecksWindow LIMIT k (form_of distinct) optimize file.now
-        proof.now) result }
+    ensures { ChecksBytes (subjects.File Own) (goals.Inductive k (form_of distinct)) optimize
+        optimize (file.now ∷ []) (proof.now ∷ []) result }
 {
-    inductive_windows_are_safe();
-    match step_of(k) {
-        Ok(k) => status_of(check_window(
-            alloc,
-            &mut FromRead::new(file),
-            LIMIT,
-            k,
-            optimize,
-            window_form(distinct),
-            &mut FromRead::new(proof),
-        )),
-        Err(status) => status,
-    }
+    let goal = Goal::Inductive(k as usize, window_form(distinct));
+    check_proof(alloc, FileSubject::Own, goal, optimize, file, proof)
 }
 
 /// Checks proofs, in LRAT or DRAT, that no bad state of a file's machine is ever reached: `base`, that the clauses of its question up
@@ -104,21 +78,97 @@ pub extern "C" fn aig_check_safe(
     step_optimize: bool,
     step: &[u8],
 ) -> u32
-    ensures { ChecksAt k safety_status (ChecksSafe LIMIT k (form_of distinct) base_optimize
-        step_optimize file.now base.now step.now) result }
+    ensures { ChecksBytes (subjects.File Own) (goals.Safe k (form_of distinct)) base_optimize
+        step_optimize (file.now ∷ []) (base.now ∷ step.now ∷ []) result }
 {
-    match step_of(k) {
-        Ok(k) => status_of(check_safe(
-            alloc,
-            &mut FromRead::new(file),
-            LIMIT,
-            k,
-            base_optimize,
-            &mut FromRead::new(base),
-            window_form(distinct),
-            step_optimize,
-            &mut FromRead::new(step),
-        )),
-        Err(status) => status,
-    }
+    check_proofs(
+        alloc,
+        FileSubject::Own,
+        Goal::Safe(k as usize, window_form(distinct)),
+        base_optimize,
+        step_optimize,
+        file,
+        base,
+        step,
+    )
+}
+
+/// Checks a proof, in LRAT or DRAT, that the query of the live circuit of a file's justice property `j`, from 0 on, for step `k` can't
+/// be satisfied: then the property has no fair lasso of `k + 1` steps.
+#[unsafe(no_mangle)]
+pub extern "C" fn aig_check_no_lasso(
+    alloc: Global,
+    file: &[u8],
+    j: usize,
+    k: u64,
+    optimize: bool,
+    proof: &[u8],
+) -> u32
+    ensures { ChecksBytes (subjects.File (Live j)) (goals.Refuted k) optimize optimize
+        (file.now ∷ []) (proof.now ∷ []) result }
+{
+    let live = FileSubject::Live { property: j };
+    check_proof(
+        alloc,
+        live,
+        Goal::Refuted(k as usize),
+        optimize,
+        file,
+        proof,
+    )
+}
+
+/// Checks a proof, in LRAT or DRAT, that the clauses of the question of the live circuit of a file's justice property `j`, from 0 on,
+/// up to step `k` can't be satisfied: then the property has no fair lasso of at most `k + 1` steps. No proof is read if the
+/// question's output is the constant false.
+#[unsafe(no_mangle)]
+pub extern "C" fn aig_check_no_lasso_to(
+    alloc: Global,
+    file: &[u8],
+    j: usize,
+    k: u64,
+    optimize: bool,
+    proof: &[u8],
+) -> u32
+    ensures { ChecksBytes (subjects.File (Live j)) (goals.RefutedTo k) optimize optimize
+        (file.now ∷ []) (proof.now ∷ []) result }
+{
+    let live = FileSubject::Live { property: j };
+    check_proof(
+        alloc,
+        live,
+        Goal::RefutedTo(k as usize),
+        optimize,
+        file,
+        proof,
+    )
+}
+
+/// Checks proofs, in LRAT or DRAT, that a file's justice property `j`, from 0 on, has no fair run: those that `aig_check_safe` takes of
+/// the file that the text of its live circuit is.
+#[unsafe(no_mangle)]
+pub extern "C" fn aig_check_no_fair_run(
+    alloc: Global,
+    file: &[u8],
+    j: usize,
+    k: u64,
+    distinct: bool,
+    base_optimize: bool,
+    base: &[u8],
+    step_optimize: bool,
+    step: &[u8],
+) -> u32
+    ensures { ChecksBytes (subjects.File (Live j)) (goals.Safe k (form_of distinct)) base_optimize
+        step_optimize (file.now ∷ []) (base.now ∷ step.now ∷ []) result }
+{
+    check_proofs(
+        alloc,
+        FileSubject::Live { property: j },
+        Goal::Safe(k as usize, window_form(distinct)),
+        base_optimize,
+        step_optimize,
+        file,
+        base,
+        step,
+    )
 }

@@ -9,7 +9,7 @@ mod checked_printing;
 mod checks;
 mod edits;
 mod fair;
-mod liveness;
+mod goals;
 mod mapping;
 mod messages;
 mod numbers;

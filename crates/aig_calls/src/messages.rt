@@ -5,7 +5,7 @@ ghost use Rattle.aig_calls.specs.Calls.{IsGiven};
 
 use crate::buffer::give;
 use crate::status::{
-    BASE, CERTIFICATE, MEMORY, OTHER, PROOF, PROPERTY, QUERY, RESET, STEP, TRANSITION, WINDOW,
+    BASE, CERTIFICATE, EMPTY, MEMORY, OTHER, PROOF, PROPERTY, QUERY, RESET, STEP, TRANSITION, WINDOW,
 };
 use aig_base::MemoryError;
 use std::alloc::Global;
@@ -130,13 +130,35 @@ fn words_of_given(status: u32) -> &'static [u8] {
     }
 }
 
+/// The words of a status from 110 on, of a circuit in memory.
+fn words_of_circuit(status: u32) -> &'static [u8] {
+    match status {
+        110 => b"the handle holds nothing",
+        111 => b"no such edge, node, entry, list or limit",
+        112 => b"more than 2^31 nodes",
+        113 => b"a leaf is neither input nor latch",
+        114 => b"an initial edge is not constant",
+        115 => b"a name holds a line feed",
+        116 => b"the node is not a free leaf",
+        117 => b"the name is not UTF-8",
+        118 => b"the node has no name",
+        119 => b"the node is no gate, or an operand has no smaller number",
+        120 => b"the circuit does not begin with the other one",
+        121 => b"more or fewer values than inputs or latches",
+        122 => b"a value is none of the three",
+        _ => b"no status",
+    }
+}
+
 /// The words of a status.
 fn words_of(status: u32) -> &'static [u8] {
     let plain = status % OTHER;
     if plain < PROOF {
         words_of_file(plain)
-    } else {
+    } else if plain < EMPTY {
         words_of_given(plain)
+    } else {
+        words_of_circuit(plain)
     }
 }
 

@@ -1,16 +1,22 @@
 //! Calls that check proofs about two files.
 
+ghost use Rattle.std.specs.Prelude.{◌∷◌, []};
+ghost use Rattle.aig_answers.specs.declared.goals.goal.Goal.TheVariants as goals;
+ghost use Rattle.aig_runs.specs.declared.window.Window.TheVariants.{Plain};
 ghost use Rattle.aig_simulated.specs.Simulated.{proofs_of};
-ghost use Rattle.aig_calls.specs.Calls.{Checks, ChecksAt, form_of};
-ghost use Rattle.aig_calls.specs.Checking.{ChecksAlwaysEqual, ChecksCertificate, ChecksEqual, ChecksEqualBy, ChecksWitness};
-ghost use Rattle.aig_calls.specs.Statuses.{certificate_status, equality_status, miter_status, simulation_status};
+ghost use Rattle.aig_subjects.specs.declared.subject.FileSubject.TheVariants.{Own};
+ghost use Rattle.aig_subjects.specs.declared.subject.Subject.TheVariants as subjects;
+ghost use Rattle.aig_calls.specs.Calls.{form_of};
+ghost use Rattle.aig_calls.specs.Checking.{ChecksBytes, ChecksWitness};
 
+use crate::goals::check;
 use crate::pairs::COMPARISON;
 use crate::status::status_of;
-use crate::steps::{step_of, window_form};
-use aig_answers::{check_always_equal, check_certified, check_equal, check_equal_by};
-use aig_base::FromRead;
-use aig_simulated::{SimulationError, check_simulated};
+use crate::steps::window_form;
+use aig_answers::{Goal, Window};
+use aig_command_line::InMemory;
+use aig_simulated::check_simulated;
+use aig_subjects::{FileSubject, Subject};
 use aig_tool_commands::LIMIT;
 use std::alloc::Global;
 
@@ -25,18 +31,18 @@ pub extern "C" fn aig_check_certified(
     base: &[u8],
     step: &[u8],
 ) -> u32
-    ensures { Checks certificate_status (ChecksCertificate LIMIT optimize file.now certificate.now
-        base.now step.now) result }
+    ensures { ChecksBytes (subjects.Certified Own) (goals.SafeBySteps 0 Plain) optimize optimize
+        (file.now ∷ certificate.now ∷ []) (base.now ∷ step.now ∷ []) result }
 {
-    status_of(check_certified(
+    check(
         alloc,
-        &mut FromRead::new(file),
-        &mut FromRead::new(certificate),
-        LIMIT,
+        Subject::Certified(FileSubject::Own),
+        Goal::SafeBySteps(0, Window::Plain),
         optimize,
-        &mut FromRead::new(base),
-        &mut FromRead::new(step),
-    ))
+        optimize,
+        &mut [InMemory::new(file), InMemory::new(certificate)],
+        &mut [InMemory::new(base), InMemory::new(step)],
+    )
 }
 
 /// Checks that a witness circuit shows by a proof for each condition that no bad state of a file's machine is ever reached.
@@ -50,22 +56,22 @@ fn simulate<'a>(
     property: &'a [u8],
     base: &'a [u8],
     step: &'a [u8],
-) -> Result<(), SimulationError>
+) -> u32
     ensures { let given = proofs_of reset.now transition.now property.now base.now step.now in
-        ChecksWitness LIMIT optimize file.now witness.now given result }
+        ChecksWitness optimize file.now witness.now given result }
 {
-    check_simulated(
+    status_of(check_simulated(
         alloc,
-        &mut FromRead::new(file),
-        &mut FromRead::new(witness),
+        &mut InMemory::new(file),
+        &mut InMemory::new(witness),
         LIMIT,
         optimize,
-        &mut FromRead::new(reset),
-        &mut FromRead::new(transition),
-        &mut FromRead::new(property),
-        &mut FromRead::new(base),
-        &mut FromRead::new(step),
-    )
+        &mut InMemory::new(reset),
+        &mut InMemory::new(transition),
+        &mut InMemory::new(property),
+        &mut InMemory::new(base),
+        &mut InMemory::new(step),
+    ))
 }
 
 /// Checks that a witness circuit of the hardware model checking competition shows that no bad state of a file's machine is ever reached: by a
@@ -83,11 +89,11 @@ pub extern "C" fn aig_check_simulated(
     step: &[u8],
 ) -> u32
     ensures { let given = proofs_of reset.now transition.now property.now base.now step.now in
-        Checks simulation_status (ChecksWitness LIMIT optimize file.now witness.now given) result }
+        ChecksWitness optimize file.now witness.now given result }
 {
-    status_of(simulate(
+    simulate(
         alloc, file, witness, optimize, reset, transition, property, base, step,
-    ))
+    )
 }
 
 /// Checks a proof, in LRAT or DRAT, that the query of two files' miter for step `k` can't be satisfied: then their machines are
@@ -101,22 +107,18 @@ pub extern "C" fn aig_check_equal(
     optimize: bool,
     proof: &[u8],
 ) -> u32
-    ensures { ChecksAt k certificate_status (ChecksEqual LIMIT k optimize file.now other.now
-        proof.now) result }
+    ensures { ChecksBytes (subjects.Miter COMPARISON) (goals.Refuted k) optimize optimize
+        (file.now ∷ other.now ∷ []) (proof.now ∷ []) result }
 {
-    match step_of(k) {
-        Ok(k) => status_of(check_equal(
-            alloc,
-            &mut FromRead::new(file),
-            &mut FromRead::new(other),
-            COMPARISON,
-            LIMIT,
-            k,
-            optimize,
-            &mut FromRead::new(proof),
-        )),
-        Err(status) => status,
-    }
+    check(
+        alloc,
+        Subject::Miter(COMPARISON),
+        Goal::Refuted(k as usize),
+        optimize,
+        optimize,
+        &mut [InMemory::new(file), InMemory::new(other)],
+        &mut [InMemory::new(proof)],
+    )
 }
 
 /// Checks proofs, in LRAT or DRAT, that the machines of two files are equal at every step: those that `aig_check_safe` takes of the
@@ -133,25 +135,18 @@ pub extern "C" fn aig_check_always_equal(
     step_optimize: bool,
     step: &[u8],
 ) -> u32
-    ensures { ChecksAt k equality_status (ChecksAlwaysEqual LIMIT k (form_of distinct) base_optimize
-        step_optimize file.now other.now base.now step.now) result }
+    ensures { ChecksBytes (subjects.Miter COMPARISON) (goals.Safe k (form_of distinct))
+        base_optimize step_optimize (file.now ∷ other.now ∷ []) (base.now ∷ step.now ∷ []) result }
 {
-    match step_of(k) {
-        Ok(k) => status_of(check_always_equal(
-            alloc,
-            &mut FromRead::new(file),
-            &mut FromRead::new(other),
-            COMPARISON,
-            LIMIT,
-            k,
-            base_optimize,
-            &mut FromRead::new(base),
-            window_form(distinct),
-            step_optimize,
-            &mut FromRead::new(step),
-        )),
-        Err(status) => status,
-    }
+    check(
+        alloc,
+        Subject::Miter(COMPARISON),
+        Goal::Safe(k as usize, window_form(distinct)),
+        base_optimize,
+        step_optimize,
+        &mut [InMemory::new(file), InMemory::new(other)],
+        &mut [InMemory::new(base), InMemory::new(step)],
+    )
 }
 
 /// Checks that a certificate of their miter shows that the machines of two files are equal at every step: the certificate and the
@@ -166,18 +161,20 @@ pub extern "C" fn aig_check_equal_by(
     base: &[u8],
     step: &[u8],
 ) -> u32
-    ensures { Checks miter_status (ChecksEqualBy LIMIT optimize file.now other.now certificate.now
-        base.now step.now) result }
+    ensures { ChecksBytes (subjects.MiterCertified COMPARISON) (goals.SafeBySteps 0 Plain) optimize
+        optimize (file.now ∷ other.now ∷ certificate.now ∷ []) (base.now ∷ step.now ∷ []) result }
 {
-    status_of(check_equal_by(
+    check(
         alloc,
-        &mut FromRead::new(file),
-        &mut FromRead::new(other),
-        COMPARISON,
-        &mut FromRead::new(certificate),
-        LIMIT,
+        Subject::MiterCertified(COMPARISON),
+        Goal::SafeBySteps(0, Window::Plain),
         optimize,
-        &mut FromRead::new(base),
-        &mut FromRead::new(step),
-    ))
+        optimize,
+        &mut [
+            InMemory::new(file),
+            InMemory::new(other),
+            InMemory::new(certificate),
+        ],
+        &mut [InMemory::new(base), InMemory::new(step)],
+    )
 }

@@ -1,12 +1,12 @@
 //! The numbers by which calls say how they ended.
 
 ghost use Rattle.std.specs.Prelude.{◌≡◌, ◌<◌, ◌≤◌, ℕ};
-ghost use Rattle.aig_calls.specs.Statuses.{answer_status, base_status, bounded_status, certificate_status, check_status, claim_status, condition_flag, condition_status, edit_status, encode_status, equality_status, fault_status, flagged, lasso_status, live_status, made_status, miter_status, pair_status, read_status, refutation_status, safety_status, section_number, sharing_status, show_status, simulation_status, solution_status, status_by, step_status, tool_status, witness_status};
+ghost use Rattle.aig_calls.specs.Statuses.{answer_status, bounded_status, certificate_flag, certificate_status, check_status, claim_status, condition_flag, condition_status, edit_status, encode_status, fault_status, flagged, goal_status, lasso_status, nodes_status, pair_status, plan_status, question_flag, read_status, refutation_status, room_flag, section_number, sharing_status, show_status, simulation_status, solution_status, status_by, subject_status, tool_status, why_status, witness_status};
 
 use aig::ReadError;
 use aig_answers::{
-    AnswerError, BoundedAnswerError, CertificateError, EqualityError, LivenessError, MiterError,
-    SafetyError,
+    AnswerError, BoundedAnswerError, CertificateError, Goal, GoalError, GoalFault, PlanError,
+    Refused, Why,
 };
 use aig_bounded::BoundedError;
 use aig_check_commands::CheckError;
@@ -16,6 +16,7 @@ use aig_reader::Section;
 use aig_refutation::RefutationError;
 use aig_simulated::{Condition, ConditionError, SimulationError};
 use aig_simulation::{QuestionError, SharingError};
+use aig_subjects::{FileSubject, Subject, SubjectError};
 use aig_tool_commands::ToolError;
 use aig_witness::{ClaimError, LassoFault, ShowError, SolutionError, WitnessError, WitnessFault};
 
@@ -79,6 +80,8 @@ const SHOW: u32 = 70;
 const SOLUTION: u32 = 80;
 /// A witness shows no fair lasso. The fault's number is added.
 const LASSO: u32 = 100;
+/// A handle holds nothing: the first status of a call on a circuit in memory.
+pub(crate) const EMPTY: u32 = 110;
 
 /// It is the second of two files that is refused so.
 pub(crate) const OTHER: u32 = 256;
@@ -146,7 +149,7 @@ fn of_encode(error: EncodeError) -> u32
 
 /// The status of a file of which nothing is made. What is written to memory stops only where memory is refused.
 fn of_edit(error: EditError) -> u32
-    ensures exact { result ≡ edit_status error }
+    ensures { result ≡ edit_status error }
 {
     match error {
         EditError::Read(error) => of_read(error),
@@ -272,7 +275,7 @@ fn of_bounded(error: BoundedAnswerError) -> u32
 /// The status with a flag, which one that says nothing hasn't.
 fn flagged(flag: u32, status: u32) -> u32
     requires flag { flag ≤ 65536 }
-    requires few { status < 2048 }
+    requires few { status < 8192 }
     ensures { result ≡ flagged flag status }
 {
     if status < MANY_STEPS {
@@ -308,68 +311,95 @@ fn of_certificate(error: CertificateError) -> u32
     }
 }
 
-/// The status of first steps that aren't shown to be safe: their question is too large, or their proof is refused.
-fn of_base(error: BoundedAnswerError) -> u32
-    ensures { result ≡ base_status error }
+/// The flag of a certificate of a miter, and of its proofs.
+fn certificate_flag(subject: Subject) -> u32
+    ensures exact { result ≡ certificate_flag subject }
+    ensures few { result ≤ 8192 }
 {
-    match error {
-        BoundedAnswerError::Question(BoundedError::TooLarge) => BASE + LARGE_QUESTION,
-        BoundedAnswerError::Refutation(error) => flagged(BASE, of_refutation(error)),
-        // First steps have no other error but that memory ran out.
-        _ => MEMORY,
+    match subject {
+        Subject::MiterCertified(_) => CERTIFICATE,
+        _ => 0,
     }
 }
 
-/// The status of a window that isn't shown to be without a bad state first at its end: its proof is refused.
-fn of_step(error: AnswerError) -> u32
-    ensures { result ≡ step_status error }
+/// The status of files of which there is no circuit to ask about.
+fn of_subject(subject: Subject, error: SubjectError) -> u32
+    ensures { result ≡ subject_status subject error }
 {
     match error {
-        AnswerError::Refutation(error) => flagged(STEP, of_refutation(error)),
-        // A window that there is room for has no other error but that memory ran out.
-        _ => MEMORY,
+        SubjectError::File(error) => of_edit(error),
+        SubjectError::Pair(error) => of_pair(error),
+        SubjectError::Certificate(error) => flagged(certificate_flag(subject), of_pair(error)),
     }
 }
 
-/// The status of a file whose machine isn't shown to be safe.
-fn of_safety(error: SafetyError) -> u32
-    ensures { result ≡ safety_status error }
+/// The status of a question that isn't shown to hold.
+fn of_why(why: Why) -> u32
+    ensures exact { result ≡ why_status why }
+    ensures few { result < 60 }
 {
-    match error {
-        SafetyError::File(error) => of_answer(error),
-        SafetyError::Base(error) => of_base(error),
-        SafetyError::Step(error) => of_step(error),
+    match why {
+        Why::Clauses(BoundedError::TooLarge) => LARGE_QUESTION,
+        Why::Clauses(BoundedError::Memory) => MEMORY,
+        Why::Refutation(error) => of_refutation(error),
     }
 }
 
-/// The status of what is made of files, where it isn't shown to be safe.
-fn of_made(error: SafetyError) -> u32
-    ensures { result ≡ made_status error }
+/// The flag of the question at a place of a plan: of two proofs that of the first or the second, and none of a question of the file's own
+/// circuit that is alone.
+fn question_flag(subject: Subject, goal: Goal, index: usize) -> u32
+    ensures exact { result ≡ question_flag subject goal index }
+    ensures few { result ≤ 4096 }
 {
-    match error {
-        SafetyError::File(error) => flagged(WINDOW, of_answer(error)),
-        SafetyError::Base(error) => of_base(error),
-        SafetyError::Step(error) => of_step(error),
+    match (subject, goal) {
+        (_, Goal::Safe(..)) if index == 0 => BASE,
+        (_, Goal::Safe(..)) => STEP,
+        (_, Goal::SafeBySteps(..)) if index == 0 => QUERY,
+        (_, Goal::SafeBySteps(..)) => WINDOW,
+        (Subject::File(FileSubject::Own), _) => 0,
+        (_, Goal::RefutedTo(_)) => BASE,
+        _ => QUERY,
     }
 }
 
-/// The status of two files whose machines aren't shown to be equal at every step.
-fn of_equality(error: EqualityError) -> u32
-    ensures { result ≡ equality_status error }
+/// The flag of a plan for which there is no room: that of the window, if there are first steps, and none where the file's own circuit is
+/// too large.
+fn room_flag(subject: Subject, goal: Goal, index: usize) -> u32
+    ensures exact { result ≡ room_flag subject goal index }
+    ensures few { result ≤ 4096 }
 {
-    match error {
-        EqualityError::Pair(error) => of_pair(error),
-        EqualityError::Miter(error) => of_made(error),
+    match (subject, goal) {
+        (Subject::File(FileSubject::Own), _) => 0,
+        (_, Goal::Safe(..)) => WINDOW,
+        _ => question_flag(subject, goal, index),
     }
 }
 
-/// The status of two files whose machines aren't shown to be so by a certificate of their miter.
-fn of_miter(error: MiterError) -> u32
-    ensures { result ≡ miter_status error }
+/// The status of a circuit that has more nodes than the limit: that of its further steps, where some are asked about.
+fn of_nodes(goal: Goal) -> u32
+    ensures exact { result ≡ nodes_status goal }
+    ensures few { result < 60 }
+{
+    match goal {
+        Goal::RefutedTo(_) => LARGE_QUESTION,
+        Goal::Safe(..) => TOO_LARGE,
+        _ => TOO_MANY,
+    }
+}
+
+/// The status of a plan that isn't shown to hold.
+fn of_plan(subject: Subject, goal: Goal, error: PlanError) -> u32
+    ensures exact { result ≡ plan_status subject goal error }
+    ensures few { result < 8192 }
 {
     match error {
-        MiterError::Pair(error) => of_pair(error),
-        MiterError::Certificate(error) => flagged(CERTIFICATE, of_certificate(error)),
+        PlanError::TooMany => room_flag(subject, goal, 0) + of_nodes(goal),
+        PlanError::TooLarge(index) => room_flag(subject, goal, index) + TOO_LARGE,
+        PlanError::NoBads => room_flag(subject, goal, 0) + NO_BADS,
+        PlanError::Crowded(index) => room_flag(subject, goal, index) + CROWDED,
+        PlanError::Refused(Refused { index, why }) => {
+            flagged(question_flag(subject, goal, index), of_why(why))
+        }
     }
 }
 
@@ -485,51 +515,31 @@ impl HasNumber for AnswerError {
     }
 }
 
-impl HasNumber for BoundedAnswerError {
-    ghost number = { bounded_status };
-
-    fn number(self) -> u32 {
-        of_bounded(self)
-    }
-}
-
-impl HasNumber for SafetyError {
-    ghost number = { safety_status };
-
-    fn number(self) -> u32 {
-        of_safety(self)
-    }
-}
-
-impl HasNumber for CertificateError {
-    ghost number = { certificate_status };
-
-    fn number(self) -> u32 {
-        of_certificate(self)
-    }
-}
-
-impl HasNumber for EqualityError {
-    ghost number = { equality_status };
-
-    fn number(self) -> u32 {
-        of_equality(self)
-    }
-}
-
-impl HasNumber for MiterError {
-    ghost number = { miter_status };
-
-    fn number(self) -> u32 {
-        of_miter(self)
-    }
-}
-
 impl HasNumber for SimulationError {
     ghost number = { simulation_status };
 
     fn number(self) -> u32 {
         of_simulation(self)
+    }
+}
+
+impl HasNumber for GoalError {
+    ghost number = { λ e. goal_status e.subject e.goal e.fault };
+
+    /// The status of files of which a goal isn't shown.
+    fn number(self) -> u32 {
+        let GoalError {
+            subject,
+            goal,
+            fault,
+        } = self;
+        match fault {
+            GoalFault::Subject(error) => of_subject(subject, error),
+            GoalFault::Memory => MEMORY,
+            GoalFault::Plan(error) => {
+                flagged(certificate_flag(subject), of_plan(subject, goal, error))
+            }
+        }
     }
 }
 
@@ -568,26 +578,10 @@ impl HasNumber for CheckError {
             CheckError::Show(error) => of_show(error),
             CheckError::Lasso(fault) => of_lasso(fault),
             CheckError::Bounded(error) => of_bounded(error),
-            CheckError::Goal(_) => MEMORY,
+            CheckError::Goal(error) => error.number(),
             CheckError::Certificate(error) => of_certificate(error),
-            CheckError::Equality(error) => of_equality(error),
-            CheckError::Miter(error) => of_miter(error),
             CheckError::Unmade(error) => of_edit(error),
             CheckError::Simulation(error) => of_simulation(error),
-        }
-    }
-}
-
-impl HasNumber for LivenessError {
-    ghost number = { live_status };
-
-    /// The status of a file of whose justice property something isn't shown.
-    fn number(self) -> u32 {
-        match self {
-            LivenessError::Live(error) => of_edit(error),
-            LivenessError::Query(error) => flagged(QUERY, of_answer(error)),
-            LivenessError::Question(error) => of_base(error),
-            LivenessError::Safety(error) => of_made(error),
         }
     }
 }

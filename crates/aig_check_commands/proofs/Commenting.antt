@@ -1,13 +1,10 @@
 -- The lines of comments, as a text for each place in a list, and behind them the clauses.
-use Rattle.aig_check_commands.proofs.Words.{◌==◌, zero-add, codes, enumerate_from, flat_map, range_with_len, zip, get_or-zip, get_or-enumerate_from, Lit, lit_to, variable_of, clauses_in, lit_of, place_at, last_bads, IsFormula, sign_of, ArePassed, StaysInside, decimal_inside, ends-append, ends-line_feed, inside-append, inside-cons, line_passed, parse_formula-passed, passed-append, passed-flat_map, sign_inside, parse_formula-dimacs_of, BoundedClauses, IsSum, Clauses, Title, letter_of, place_line, bad_line, input_line, latch_comment, IsQueryText, IsClausesText, title_of}
+use Rattle.aig_check_commands.proofs.Words.{◌==◌, zero-add, codes, enumerate_from, flat_map, range_with_len, zip, get_or-zip, get_or-enumerate_from, Lit, lit_to, variable_of, clauses_in, lit_of, place_at, last_bads, IsFormula, sign_of, ArePassed, StaysInside, decimal_inside, ends-append, ends-line_feed, inside-append, inside-cons, line_passed, parse_formula-passed, passed-append, passed-flat_map, sign_inside, parse_formula-dimacs_of, BoundedClauses, Title, letter_of, place_line, bad_line, input_line, latch_comment}
 use Rattle.std.proofs.Common.{◌≡◌, ℕ, Bool, ◌+◌, ◌<◌, true, false, Option, Some, List, [], ◌∷◌, ◌++◌, length, get_or, refl, sym, ap, ◌∙◌}
 use Rattle.aig_base.proofs.Words.{decimal}
 use Rattle.aig_circuit.proofs.Words.{Circuit, latch_leaves}
 use Rattle.aig_dimacs.specs.Reading.{after_comments, parse_formula}
 use Rattle.aig_dimacs.specs.Text.{dimacs_of}
-use Rattle.aig_format.proofs.Words.{File, circuit_of}
-use Rattle.aig_runs.proofs.Asking.{asks, encodes}
-use Rattle.aig_runs.specs.Unrolled.{IsUnrolledOf, UnrolledCircuit}
 use Rattle.aig_check_commands.proofs.Passing.{title_passed}
 use Rattle.aig_check_commands.specs.Titles.{title_text}
 use Rattle.aig_check_commands.specs.Bounded.{bounded_comments}
@@ -105,31 +102,10 @@ bounded_again t made =
     (clauses_in made.clauses ++ made.extra)
     (passed-append (title_text t) (bounded_comments made) (title_passed t) (bounded_passed made))
 
--- the text of the query of the file's circuit is that of the file
-pub clauses_text : (bytes : Option (List ℕ)) (sum : List ℕ) → IsSum bytes sum → (f : File)
-    (limit k : ℕ) (optimize : Bool) (u : UnrolledCircuit) (text : List ℕ) → IsUnrolledOf k limit f u
-    → IsQueryText (title_of (Clauses k) optimize sum) u optimize text
-    → IsClausesText bytes f k optimize text
-clauses_text bytes sum sums f limit k optimize u text of is =
-    let t = title_of (Clauses k) optimize sum in
-    let all = clauses_in is.lists ++ is.extra in
-    let comments = ap (λ (c : Circuit). comments_of c u.unrolled u.steps) of.unrolls.circuit
-    ∙ ap (comments_of (circuit_of f) u.unrolled) of.unrolls.steps in
-    record {
-      sum = sum;
-      sums = sums;
-      query = record {
-        encoded = record { circuit = circuit_of f; unrolled = u.unrolled; clauses = is.lists };
-        extra = is.extra;
-      };
-      asks = (
-        encodes f limit k optimize u is.lists of is.has,
-        asks f limit k optimize u is.lists of is.has is.extra is.asks,
-      );
-      exact = is.exact
-          ∙ ap (λ (cs : List ℕ). title_text t ++ cs ++ dimacs_of (length is.lists) all) comments;
-      again = ap parse_formula is.exact
-          ∙ again (title_text t ++ comments_of u.circuit u.unrolled u.steps) (length is.lists) all
-          (passed-append (title_text t) (comments_of u.circuit u.unrolled u.steps) (title_passed t)
-          (comments_passed u.circuit u.unrolled u.steps)) is.formula;
-    }
+pub query_again : (t : Title) (c u : Circuit) (k variables : ℕ) (clauses : List (List Lit))
+    → IsFormula variables clauses
+    → parse_formula (title_text t ++ comments_of c u k ++ dimacs_of variables clauses)
+    ≡ Some (variables, clauses)
+query_again t c u k variables clauses =
+    again (title_text t ++ comments_of c u k) variables clauses
+    (passed-append (title_text t) (comments_of c u k) (title_passed t) (comments_passed c u k))

@@ -1,8 +1,8 @@
 -- The comments of a small query, computed; and wrong words and lines, of which the definitions are
 -- false.
-use Rattle.aig_check_commands.proofs.Words.{◌≡◌, ◌≢◌, ◌⊎◌, ℕ, All, Bool, true, false, None, Ok, Option, List, [], ◌∷◌, ◌++◌, length, refl, ap, subst, sym, arith, length-append, ◌∙◌, inl, inr, Some, same_Some, false≢true, Err, IsTrue, not, slice_get, slice_index, slice_index_or, lit_to, False, Leaf, AigEdge, Properties, only_false, edge_to, lit_of, no_properties, File, IsNumber, ByName, one_constraints, Comparison, Constraints, Compared, OfBoth, OfFirst, Alike, Apart, Accepted, Judges, RefutationError, AnswerError, BoundedClauses, AsksBounded, IsSettled, IsBoundedText, Condition, TellsOfCondition, TellsOfSimulated, Asked, Command, FileCommand, Justice, OpenError, CheckError, ChecksFile, IsErrorOf, TellsOfGiven, file_verdict, nothing_fails, nothing_given, shown_line, verdict_of, Window, TellsOfGoal, Acts, bytes_of, has_failed, PrintsMade, OnOpening, EndsWith, Arguments, GivesArguments, setting_words, IsLimited, Action, IsObligationsText, PairAnswers, RefusesPair, always_line, equal_line, safe_line, starts_text, AreCommand, FitNone, Give, IsAlone, IsOf, IsOnWitness, IsWhole, command_of, form_of, name_of, of_both, raw_alone, under, WitnessAction}
+use Rattle.aig_check_commands.proofs.Words.{◌≡◌, ◌≢◌, ◌⊎◌, ℕ, All, Bool, true, false, None, Ok, Option, List, [], ◌∷◌, ◌++◌, length, refl, ap, subst, sym, arith, length-append, ◌∙◌, inl, inr, Some, same_Some, false≢true, Err, IsTrue, not, slice_get, slice_index, slice_index_or, lit_to, False, Leaf, AigEdge, Properties, only_false, edge_to, lit_of, no_properties, File, IsNumber, ByName, one_constraints, Comparison, Constraints, Compared, OfBoth, OfFirst, Alike, Apart, Accepted, Judges, RefutationError, AnswerError, BoundedClauses, IsSettled, Condition, TellsOfCondition, TellsOfSimulated, Asked, Command, FileCommand, Justice, OpenError, CheckError, ChecksFile, IsErrorOf, TellsOfGiven, file_verdict, nothing_fails, nothing_given, shown_line, verdict_of, Window, Acts, OnOpening, Arguments, GivesArguments, setting_words, IsLimited, Action, IsObligationsText, always_line, equal_line, safe_line, starts_text, AreCommand, FitNone, Give, IsAlone, IsOf, IsOnWitness, IsWhole, command_of, form_of, name_of, of_both, raw_alone, under, WitnessAction, AsksOfBads, ArePrinted, HasNoClauses, IsQuestionText, room_of, Question, WindowClauses}
 use Rattle.aig_base.proofs.Words.{Result}
-use Rattle.std.specs.Prelude.{◌^◌, codes, decimal}
+use Rattle.std.specs.Prelude.{◌^◌, codes, decimal, if◌then◌else◌}
 use Rattle.std.specs.Fmt.{digits}
 use Rattle.aig_circuit.proofs.Words.{Circuit}
 use Rattle.aig_answers.specs.declared.error.AnswerError.TheVariants as answers
@@ -12,15 +12,23 @@ use Rattle.aig_witness.specs.declared.file.ShowError.TheVariants as shows
 use Rattle.aig_witness.specs.declared.fair.file.ShownProperty.TheVariants as properties
 use Rattle.aig_check_commands.proofs.Calling.{no_justice}
 use Rattle.aig_command_line.specs.declared.files.OpenError.TheVariants as opening
-use Rattle.aig_answers.specs.declared.bounded_checks.error.BoundedAnswerError.TheVariants as bounded
-use Rattle.aig_reader.specs.declared.error.ReadError.TheVariants as read
+use Rattle.aig_answers.specs.declared.plans.asking.Ask.TheVariants as asks
+use Rattle.aig_answers.specs.declared.plans.errors.PlanError.TheVariants as plans
+use Rattle.aig_answers.specs.declared.plans.errors.Why.{Why}
+use Rattle.aig_answers.specs.declared.plans.errors.PlanError.{PlanError}
+use Rattle.aig_answers.specs.declared.plans.errors.Why.TheVariants as whys
 use Rattle.aig_check_commands.specs.declared.error.CheckError.TheVariants as errors
-use Rattle.aig_check_commands.specs.Goals.{safe_to_line, step_line, window_line}
-use Rattle.aig_check_commands.specs.declared.goals.Goal.TheVariants as goals
+use Rattle.aig_answers.specs.declared.goals.error.GoalFault.{GoalFault}
+use Rattle.aig_answers.specs.declared.goals.goal.Goal.{Goal}
+use Rattle.aig_answers.specs.declared.goals.goal.Goal.TheVariants as goals
+use Rattle.aig_subjects.specs.declared.subject.FileSubject.TheVariants.{Live, Own}
+use Rattle.aig_subjects.specs.declared.subject.Subject.{Subject}
+use Rattle.aig_subjects.specs.declared.subject.Subject.TheVariants as subjects
+use Rattle.aig_check_commands.specs.Checked.{AnswersCheck, answer_of}
+use Rattle.aig_check_commands.specs.CommandWords.{has_two_settings}
+use Rattle.aig_check_commands.specs.Goals.{line_of, safe_to_line, step_line, window_line}
 use Rattle.aig_check_commands.specs.declared.command.Action.TheVariants as actions
 use Rattle.aig_check_commands.specs.declared.command.Command.TheVariants as asked
-use Rattle.aig_check_commands.specs.declared.command.PairCommand.TheVariants as on_pair
-use Rattle.aig_answers.specs.declared.certificates.error.CertificateError.TheVariants as certificate
 use Rattle.aig_check_commands.specs.declared.command.FileCommand.TheVariants as commands
 use Rattle.aig_check_commands.specs.Comments.{comments_of, input_lines, literal_line}
 use Rattle.aig_check_commands.specs.declared.command.WitnessAction.TheVariants as on_witness
@@ -48,9 +56,14 @@ whole_of words c d x is (inl whole) = whole
 whole_of words c d x is (inr other) = absurd (none other.1)
   where
     never : (step : Bool) (c : Command) → ¬ (raw_alone step c ≡ Some (asked.File d))
-    never step (asked.Check (goals.Safe k form) o p) is = cc
-    never step (asked.Check (goals.SafeBySteps k form) o p) is = cc
-    never step (asked.Pair (on_pair.AlwaysEqual comparison k form o p)) is = cc
+    never step (asked.Check subject goal o p) is =
+        by (has_two_settings subject goal) (asked.Check subject goal (not step) step) is refl
+      where
+        by : (two : Bool) (check : Command)
+            → (if two then Some check else None) ≡ Some (asked.File d)
+            → check ≡ asked.Check subject goal (not step) step → ⊥
+        by true check is same = cc
+        by false check is same = cc
     never step c is = cc
 
     no_file : (a : WitnessAction) (given : Arguments) (further : List (List ℕ))
@@ -169,7 +182,8 @@ alike_arguments = record {
 -- files are compared with registers that are alike by name
 abbrev alike : Constraints → Asked
 alike constraints = of_property None
-    (asked.Pair (on_pair.Equal (record { starts = Alike ByName; constraints = constraints }) 3 true))
+    (asked.Check (subjects.Miter (record { starts = Alike ByName; constraints = constraints }))
+    (goals.Refuted 3) true true)
 
 alike_whole : IsWhole alike_words (alike OfBoth).command alike_arguments
 alike_whole = record {
@@ -302,46 +316,58 @@ loop-told : shown_line (properties.Lasso (record { justice = 0; start = 2; last 
 unfolding digits
 loop-told = refl
 
-module _ {S : Type 0} (left : S → Option (List ℕ)) (failed : S → Bool) (limit : ℕ)
-    (base step : Bool) (proofs others : List S) (f : File) where
+-- the text of a check that was passed is the goal's line
+answered : (subject : Subject) (goal : Goal) (text : List ℕ) (x : Result (Unit {0}) GoalFault)
+    → Ok text ≡ answer_of subject goal x → text ≡ line_of subject goal
+answered subject goal text (Ok u) is = cc
+answered subject goal text (Err e) is = absurd cc
+
+module _ {S P : Type 0} (left : S → Option (List ℕ)) (failed : S → Bool)
+    (given : P → Option (List ℕ)) (given_failed : P → Bool) (limit : ℕ) (base step : Bool)
+    (before after : List S) (proofs others : List P) where
+  abbrev Answers : Subject → Goal → List ℕ → Type 0
+  Answers subject goal text =
+      AnswersCheck left failed given given_failed limit subject goal base step before proofs after
+      others (Ok text)
+
   -- a proof for one step is told as one for each
-  no_window_told : ¬ TellsOfGoal left failed limit None (goals.Refuted 1) base step proofs others f
-      (Ok (window_line 1))
+  no_window_told : ¬ Answers (subjects.File Own) (goals.Refuted 1) (window_line 1)
   unfolding digits
-  no_window_told told =
-      let word : 97 ≡ 115 = ap (λ text. slice_index text 16) told.0 in omega (arith, word)
+  no_window_told is =
+      let told = answered (subjects.File Own) (goals.Refuted 1) _ is.checked is.told in
+      let word : 97 ≡ 115 = ap (λ text. slice_index text 16) told in omega (arith, word)
 
   -- steps up to one are told as that one
-  no_one_step_told : ¬ TellsOfGoal left failed limit None (goals.RefutedTo 1) base step proofs
-      others f (Ok (step_line 1))
+  no_one_step_told : ¬ Answers (subjects.File Own) (goals.RefutedTo 1) (step_line 1)
   unfolding digits
-  no_one_step_told told =
-      let word : 97 ≡ 117 = ap (λ text. slice_index text 13) told.0 in omega (arith, word)
+  no_one_step_told is =
+      let told = answered (subjects.File Own) (goals.RefutedTo 1) _ is.checked is.told in
+      let word : 97 ≡ 117 = ap (λ text. slice_index text 13) told in omega (arith, word)
 
   -- what is shown of a justice property is told of the bad states
-  no_bad_states_told : (a : Justice) (k : ℕ) (form : Window)
-      → ¬ TellsOfGoal left failed limit (Some a) (goals.Safe k form) base step proofs others f
-      (Ok safe_line)
-  no_bad_states_told a k form told =
-      let letter : 98 ≡ 102 = ap (λ text. slice_index text 3) told.0 in omega (arith, letter)
+  no_bad_states_told : (property k : ℕ) (form : Window)
+      → ¬ Answers (subjects.File (Live property)) (goals.Safe k form) safe_line
+  no_bad_states_told property k form is =
+      let told = answered (subjects.File (Live property)) (goals.Safe k form) _ is.checked is.told in
+      let letter : 98 ≡ 102 = ap (λ text. slice_index text 3) told in omega (arith, letter)
 
--- equal machines are told as a safe one
-no_safety_told : (comparison : Comparison) (k limit : ℕ) (optimize : Bool)
-    (base step bytes others : Option (List ℕ)) (f g : File)
-    → ¬ PairAnswers (on_pair.Equal comparison k optimize) limit base step bytes others f g safe_line
-no_safety_told comparison k limit optimize base step bytes others f g answers =
-    let letter : 110 ≡ 101 = ap (λ text. slice_index text 0) answers.0 in omega (arith, letter)
+  -- equal machines are told as a safe one
+  no_safety_told : (comparison : Comparison) (k : ℕ)
+      → ¬ Answers (subjects.Miter comparison) (goals.Refuted k) safe_line
+  no_safety_told comparison k is =
+      let told = answered (subjects.Miter comparison) (goals.Refuted k) _ is.checked is.told in
+      let letter : 110 ≡ 101 = ap (λ text. slice_index text 0) told in omega (arith, letter)
 
--- machines whose registers start alike are told as those are whose registers start apart
-no_apart_told : (k limit : ℕ) (optimize : Bool) (base step bytes others : Option (List ℕ))
-    (f g : File)
-    → ¬ PairAnswers (on_pair.Equal (of_both (Alike ByName)) k optimize) limit base step bytes others f g
-    (equal_line (of_both Apart) k)
-no_apart_told k limit optimize base step bytes others f g answers =
-    let count = ap length answers.0 in
-    let parts = length-append (decimal k) (10 ∷ []) in
-    let more = length-append (decimal k) (starts_text (Alike ByName) ++ 10 ∷ []) in
-    omega (arith, count, parts, more)
+  -- machines whose registers start alike are told as those are whose registers start apart
+  no_apart_told : (k : ℕ) → ¬ Answers (subjects.Miter (of_both (Alike ByName))) (goals.Refuted k)
+      (equal_line (of_both Apart) k)
+  no_apart_told k is =
+      let told = answered (subjects.Miter (of_both (Alike ByName))) (goals.Refuted k) _ is.checked
+      is.told in
+      let count = ap length told in
+      let parts = length-append (decimal k) (10 ∷ []) in
+      let more = length-append (decimal k) (starts_text (Alike ByName) ++ 10 ∷ []) in
+      omega (arith, count, parts, more)
 
 -- what constraints say is told before how registers begin
 constraints_told : equal_line (record { starts = Alike ByName; constraints = OfFirst }) 7
@@ -372,38 +398,46 @@ no_bare_clauses optimize bytes others f g rest is =
 -- ---- questions up to a step
 
 -- where no solver is needed, the further clause is that the constant is true
-settled_extra : (f : File) (k : ℕ) (optimize : Bool) (made : BoundedClauses)
-    → AsksBounded f k optimize made → IsSettled made → made.extra ≡ (lit_to 0 true ∷ []) ∷ []
-settled_extra f k optimize made asks settled =
+settled_extra : (c : Circuit) (k : ℕ) (optimize : Bool) (made : BoundedClauses)
+    → AsksOfBads c k optimize made → IsSettled made → made.extra ≡ (lit_to 0 true ∷ []) ∷ []
+settled_extra c k optimize made asks settled =
     let outputs = subst (λ (p : Properties AigEdge). All (λ e. e ≡ edge_to 0 false) p.outputs)
     asks.asks.properties settled in
     asks.exact ∙ ap (λ e. (lit_of e ∷ []) ∷ []) (outputs 0 (edge_to 0 false) (omega arith))
 
 -- nothing is printed, or a line that claims something
-no_silent_question : (bytes : Option (List ℕ)) (f : File) (k : ℕ) (optimize : Bool)
-    → ¬ IsBoundedText bytes f k optimize []
+no_silent_question : (q : Question) (m : Circuit) (sum : List ℕ) → ¬ IsQuestionText q m sum []
 unfolding title_text
-no_silent_question bytes f k optimize is =
+no_silent_question q m sum is =
     let letter : 0 ≡ 99 = ap (λ text. slice_index text 0) is.exact in omega (arith, letter)
 
-no_claim : (bytes : Option (List ℕ)) (f : File) (k : ℕ) (optimize : Bool)
-    → ¬ IsBoundedText bytes f k optimize (safe_to_line k)
+no_claim : (q : Question) (m : Circuit) (sum : List ℕ) (k : ℕ)
+    → ¬ IsQuestionText q m sum (safe_to_line k)
 unfolding title_text
-no_claim bytes f k optimize is =
+no_claim q m sum k is =
     let letter : 110 ≡ 99 = ap (λ text. slice_index text 0) is.exact in omega (arith, letter)
+
+-- a window has comments
+no_window_comments : (k letter : ℕ) (form : Window) (optimize : Bool) (m : Circuit)
+    (comments : List ℕ) (made : WindowClauses)
+    → ¬ ArePrinted (asks.Window k form) optimize m (letter ∷ comments) made
+no_window_comments k letter form optimize m comments made printed =
+    let none : letter ∷ comments ≡ [] = printed.1 in cc
 
 -- ---- errors
 
--- one proof is refused as the second of two
-no_second_proof : (comparison : Comparison) (k limit : ℕ) (optimize : Bool) (base step : Option (List ℕ))
-    (f g : File) (e : AnswerError)
-    → ¬ RefusesPair (on_pair.Equal comparison k optimize) limit base step f g (certificate.Window e)
-no_second_proof comparison k limit optimize base step f g e refuses = refuses
+-- why a question of a plan is refused
+abbrev why_in : RefutationError → PlanError → Why
+why_in e (plans.Refused refused) = refused.why
+why_in e p = whys.Refutation e
 
 -- clauses are refused as a proof would be
-no_proof_of_clauses : (k : ℕ) (optimize : Bool) (e : RefutationError)
-    → ¬ IsErrorOf (commands.Clauses k optimize) (errors.Answer (answers.Refutation e))
-no_proof_of_clauses k optimize e is = is
+no_proof_of_clauses : (limit : ℕ) (q : Question) (m : Circuit) (e : RefutationError)
+    → room_of limit (q ∷ []) m ≡ Ok tt
+    → ¬ HasNoClauses limit q m (plans.Refused (record { index = 0; why = whys.Refutation e }))
+no_proof_of_clauses limit q m e room (inl refused) = let no = sym room ∙ refused in cc
+no_proof_of_clauses limit q m e room (inr told) =
+    let no : whys.Refutation e ≡ whys.Clauses told.1.0 = ap (why_in e) told.1.1 in cc
 
 -- a witness that is refused is told as a read that failed, where none did
 no_failed_read : (limit : ℕ) (old new given : Option (List ℕ))
@@ -439,23 +473,3 @@ no_memory_before_files {F} {W} left failed held write_failed limit c path paths 
         → ¬ OnOpening Holds (λ e. (result ≡ Err e) × (made ≡ w)) file
     on Holds (Ok f) is leads = cc
     on Holds (Err opening.Refused) is leads = let told = leads.0 in cc
-
--- a read of what is made of FILE is told to have failed
-no_failed_read_of_a_text : {S W : Type 0} (left_of : S → Option (List ℕ)) (failed_of : S → Bool)
-    (held : W → Option (List ℕ)) (write_failed : W → Bool) (limit k : ℕ) (optimize : Bool)
-    (w made : W) (text : List ℕ)
-    → ¬ PrintsMade left_of failed_of held write_failed limit
-    (asked.File (commands.Bounded k optimize)) [] [] w made text
-    (Err (errors.Bounded (bounded.Read read.Stream)))
-no_failed_read_of_a_text left_of failed_of held write_failed limit k optimize w made text told =
-    on told.1.answer told.1.holds told.1.ends
-  where
-    on : (x : Result (List ℕ) CheckError)
-        → ChecksFile bytes_of has_failed nothing_given nothing_fails (commands.Bounded k optimize)
-        limit (Some text, false) tt (Some told.0, false) tt x
-        → ¬ EndsWith held write_failed x w (Err (errors.Bounded (bounded.Read read.Stream))) made
-    on (Ok line) holds ends = let not = ends.0 in cc
-    on (Err e) holds ends =
-        let same : Err (errors.Bounded (bounded.Read read.Stream)) ≡ Err e = ends.0 in
-        let one : e ≡ errors.Bounded (bounded.Read read.Stream) = cc in
-        false≢true (holds.verdict.stream (ap verdict_of one))

@@ -33,10 +33,3 @@ made_again a f m made = again a.rounds made
         → IsReadAgain m (file_of Text m)
     again None live = live.again
     again (Some n) rounds = rounds.again
-
--- it is the live one where no rounds are asked for
-pub live_of : (rounds : Option ℕ) (property : ℕ) (f : File) (m : Circuit) → is_none rounds ≡ true
-    → MatchOption rounds (IsLiveFile property f m) (λ n. IsRoundsFile property n f m)
-    → IsLiveFile property f m
-live_of None property f m is live = live
-live_of (Some n) property f m is live = cc

@@ -2,6 +2,7 @@
 use Rattle.aig_check_commands.proofs.Words.{◌≡◌, ◌≢◌, Bool, true, false, List, [], ◌∷◌, ◌++◌, ℕ, Option, None, Some, Ok, Err, inl, inr, refl, Appends, Keeps, IfErr, IsTrue, Result, appends_kept, stops_unflushed, OpenError, file_on, File, Stops, Accepted, verdict_by, Asked, Command, Justice, CheckError, Acts, RanBy, RanOn, EndsWith, Printed, Ran, bytes_of, has_failed, ChecksText, Concludes, IsOfMaking, MeansMade, RunsMade, TellsMade, IsMadeOwn, made_verdict, HasFairRun, other_verdict_of, safe_line, verdict_of, IsErrorOfObligation, IsErrorOfSimulated, RunsObligation, RunsSimulated, TellsOfObligation, TellsOfSimulated, refusal_of, prints, Proofs, proof_for, proofs_of, ReadsWitness, refusal_by, witness_reads_on, Condition}
 use Rattle.aig_check_commands.specs.declared.command.Command.TheVariants as commands
 use Rattle.aig_check_commands.specs.declared.error.CheckError.TheVariants as errors
+use Rattle.aig_check_commands.specs.Acting.{RanAll}
 use Rattle.aig_check_commands.specs.Goals.{no_run_line}
 use Rattle.aig_check_commands.proofs.Opened.{opens_on}
 
@@ -212,21 +213,10 @@ module _ {W : Type 0} (held : W → Option (List ℕ)) (write_failed : W → Boo
       (files others : List S)
       → Ran left failed left_of failed_of held write_failed limit c r files w (Ok u) rest others made
       → Ran left failed left_of failed_of held write_failed limit c r files w done rest others flat
-  ran_ended left failed left_of failed_of (commands.File c) r rest [] [] ran = printed ran
   ran_ended left failed left_of failed_of (commands.File c) r rest (p ∷ []) (used ∷ []) ran =
       printed ran
+  ran_ended left failed left_of failed_of (commands.Print q) r rest files others ran = printed ran
   ran_ended left failed left_of failed_of (commands.Pair c) r rest (s ∷ []) (other ∷ []) ran =
-      printed ran
-  ran_ended left failed left_of failed_of (commands.Pair c) r rest (s ∷ p ∷ [])
-      (other ∷ used ∷ []) ran =
-      printed ran
-  ran_ended left failed left_of failed_of (commands.Pair c) r rest (s ∷ p ∷ q ∷ [])
-      (other ∷ used ∷ spent ∷ []) ran =
-      printed ran
-  ran_ended left failed left_of failed_of (commands.Check goal base step) r rest files others ran =
-      printed ran
-  ran_ended left failed left_of failed_of (commands.EqualBy comparison optimize) r rest
-      (s ∷ c ∷ p ∷ q ∷ []) (other ∷ tried ∷ used ∷ spent ∷ []) ran =
       printed ran
   ran_ended left failed left_of failed_of (commands.Simulated optimize) r rest
       (s ∷ a ∷ b ∷ c ∷ d ∷ e ∷ [])
@@ -264,20 +254,25 @@ module _ {W : Type 0} (held : W → Option (List ℕ)) (write_failed : W → Boo
         → RanBy left failed left_of failed_of held write_failed limit asked c r files w done rest
         others flat
     by_ended c None ran = ran_ended left failed left_of failed_of c r rest files others ran
-    by_ended (commands.Check goal base step) (Some a) ran = printed ran
+    by_ended (commands.Print q) (Some a) ran = printed ran
     by_ended c (Some a) ran =
         made_ended left failed limit a _ _ _ _ r rest _ u done ends
         (means_ended c (prints c) a.property) ran
 
   module _ {F : Type 0} (opens : List ℕ → Result F OpenError → Type 0)
       (left : F → Option (List ℕ)) (failed : F → Bool) (c : Asked) where
+    all_ended : (a : Option Justice) (d : Command) (files others : List F)
+        → RanAll left failed held write_failed limit a d files w (Ok u) others made
+        → RanAll left failed held write_failed limit a d files w done others flat
+    all_ended a (commands.Check subject goal base step) files others ran = printed ran
+    all_ended a d (r ∷ files) (rest ∷ others) ran =
+        by_ended left failed left failed r rest files others d a ran
+    all_ended a d files others ran = absurd ran
+
     on_ended : (files others : List F)
         → RanOn left failed held write_failed limit c files w (Ok u) others made
         → RanOn left failed held write_failed limit c files w done others flat
-    on_ended (r ∷ files) (rest ∷ others) ran =
-        by_ended left failed left failed r rest files others c.command c.justice ran
-    on_ended [] others ran = absurd ran
-    on_ended (r ∷ files) [] ran = absurd ran
+    on_ended files others ran = all_ended c.justice c.command files others ran
 
     -- what was asked was done, and what that printed is flushed
     pub acts_ended : (paths further : List (List ℕ))

@@ -1,18 +1,14 @@
 mod Words
-mod Making
-mod Nameless
 mod Commenting
 mod Calling
-mod Comparing
-mod Equating
 mod Fair
 mod Flushing
-mod Showing
 mod Made
 mod Opened
 pub mod Outcomes
 mod Pairing
 mod Placing
+mod Questioning
 mod Refusing
 mod Shown
 mod Simulating

@@ -1,15 +1,20 @@
 -- What the text of the file that is made for a justice property shows of the file itself.
-use Rattle.aig_check_commands.proofs.Words.{◌≡◌, ◌≢◌, ℕ, zero, suc, ◌+◌, ◌≤◌, ◌<◌, eqb-true, false_from_ne_true, sym, ◌∙◌, true≢false, Bool, true, false, List, [], ◌∷◌, Option, None, Some, Ok, Err, Vec, Global, refl, subst, arith, length, Appends, Consumes-whole, IfErr, IsTrue, MatchOption, Result, slice_get_within, WritesOrStops, Circuit, EditError, IsEditOwn, ReadsFile, edit_verdict, IsLiveFile, IsLiveRefusal, PrintsLive, IsRoundsFile, IsRoundsRefusal, PrintsRounds, file_on, IsReadAgain, text_of, Text, file_of, HasFairRun, IsReadAs, Accepted, verdict_by, one_file, Discarded, Command, FileCommand, PairCommand, Justice, CheckError, IsErrorOfComparing, Ran, Stream, bytes_of, has_failed, is_asked, ChecksText, Concludes, IsOfMaking, IsOnText, PrintsMade, RanMade, RunsMade, TellsMade, keeps_nothing, never_fails, RanBy, IsMadeOwn, made_verdict, IsMadeOf, IsUnmade, Goal, MakesText, WritesMade, text_error, EndsWith, Printed, after_writing, ChecksPair, IsErrorOfPair, safe_line, IsErrorOf, RunsObligation, RunsSimulated, Proofs, proofs_of, Condition, beside_of, prints}
+use Rattle.aig_check_commands.proofs.Words.{◌≡◌, ◌≢◌, ℕ, zero, suc, ◌+◌, ◌≤◌, ◌<◌, eqb-true, false_from_ne_true, sym, ◌∙◌, true≢false, Bool, true, false, List, [], ◌∷◌, Option, None, Some, Ok, Err, Vec, Global, refl, subst, arith, length, Appends, Consumes-whole, IfErr, IsTrue, MatchOption, Result, slice_get_within, WritesOrStops, Circuit, EditError, IsEditOwn, ReadsFile, edit_verdict, IsLiveFile, IsLiveRefusal, PrintsLive, IsRoundsFile, IsRoundsRefusal, PrintsRounds, file_on, IsReadAgain, text_of, Text, file_of, HasFairRun, IsReadAs, Accepted, verdict_by, one_file, Discarded, Command, FileCommand, PairCommand, Justice, CheckError, Ran, Stream, bytes_of, has_failed, is_asked, ChecksText, Concludes, IsOfMaking, IsOnText, PrintsMade, RanMade, RunsMade, TellsMade, keeps_nothing, never_fails, IsMadeOf, IsUnmade, MakesText, WritesMade, text_error, EndsWith, Printed, after_writing, ChecksPair, IsErrorOfPair, safe_line, IsErrorOf, RunsObligation, RunsSimulated, Proofs, proofs_of, Condition, beside_of, prints, RunsQuestion, Question, IsMadeOwn, made_verdict}
 use Rattle.aig_base.proofs.Words.{◌==◌, IsAtEnd}
 use mathlib.Core.List.{map-id}
 use Rattle.aig_edits.specs.declared.edit_error.EditError.TheVariants as edit
 use Rattle.aig_format.specs.Fits.{Accepts}
 use Rattle.aig_format.proofs.Words.{File}
 use Rattle.aig_check_commands.specs.declared.command.Command.TheVariants as commands
-use Rattle.aig_check_commands.specs.declared.command.FileCommand.TheVariants as on_file
 use Rattle.aig_check_commands.specs.declared.command.PairCommand.TheVariants as on_pair
 use Rattle.aig_check_commands.specs.declared.error.CheckError.TheVariants as errors
-use Rattle.aig_check_commands.specs.declared.goals.Goal.TheVariants as goals
+use Rattle.aig_subjects.specs.declared.subject.Subject.{Subject}
+use Rattle.aig_subjects.specs.declared.subject.Subject.TheVariants as subjects
+use Rattle.aig_answers.specs.Goals.{proof_count}
+use Rattle.aig_answers.specs.declared.goals.goal.Goal.{Goal}
+use Rattle.aig_answers.specs.declared.goals.goal.Goal.TheVariants as goals
+use Rattle.aig_check_commands.specs.Acting.{RanAll, RanBy}
+use Rattle.aig_check_commands.specs.Justice.{file_subject}
 use Rattle.aig_check_commands.proofs.Fair.{AreLassos, made_again, no_run}
 use Rattle.aig_check_commands.proofs.Outcomes.{printed_on, text_of_printed}
 use Rattle.aig_check_commands.proofs.Viewed.{ran_seen}
@@ -54,29 +59,9 @@ read_back {Means = Means} {rest = rest} {x = x} limit m accepts again end read =
 -- what was given beside its text was taken
 module _ (runs_are : AreLassos) (limit : ℕ) (a : Justice) (f : File) (m : Circuit)
     (made : IsMadeOf a f m) (rest : Stream) (w done : Discarded) where
-  pair_shows : {S P Q : Type 0} {left_of : S → Option (List ℕ)} {failed_of : S → Bool}
-      {base_left : P → Option (List ℕ)} {base_failed : P → Bool} {step_left : Q → Option (List ℕ)}
-      {step_failed : Q → Bool} (s other : S) (p used : P) (q spent : Q) (c : PairCommand)
-      (text : List ℕ) → 0 < beside_of (commands.Pair c)
-      → IsTrue (is_asked (Some a) (commands.Pair c))
-      → ChecksPair bytes_of has_failed left_of failed_of base_left base_failed step_left step_failed
-      c limit (Some (text_of m), false) s p q rest other used spent (Ok text)
-      → ¬ HasFairRun f a.property
-  pair_shows s other p used q spent (on_pair.Certified optimize) text some asked runs =
-      let both = runs.reads in
-      no_run runs_are a f m made
-      (read_back limit m (λ bytes g is. is) (made_again a f m made) (both.verdict.whole tt).1
-      (both.answer refl refl)).means.1.0.1
-  pair_shows s other p used q spent (on_pair.Obligations optimize) text some asked runs =
-      absurd (omega (arith, some))
-  pair_shows s other p used q spent c text some asked runs = absurd (true≢false (sym asked))
-
   -- no command on a file checks the text
   file_not : (c : FileCommand) → 0 < beside_of (commands.File c)
       → ¬ IsTrue (is_asked (Some a) (commands.File c))
-  file_not (on_file.Clauses k optimize) some asked = omega (arith, some)
-  file_not (on_file.Window k form optimize) some asked = omega (arith, some)
-  file_not (on_file.Bounded k optimize) some asked = omega (arith, some)
   file_not c some asked = true≢false (sym asked)
 
   ran_shows : {S : Type 0} (left_of : S → Option (List ℕ)) (failed_of : S → Bool) (c : Command)
@@ -86,17 +71,11 @@ module _ (runs_are : AreLassos) (limit : ℕ) (a : Justice) (f : File) (m : Circ
       → ¬ HasFairRun f a.property
   ran_shows left_of failed_of (commands.File c) files others on some asked ran =
       absurd (file_not c some asked)
-  ran_shows left_of failed_of (commands.Check goal base step) files others on some asked ran =
+  ran_shows left_of failed_of (commands.Print q) files others on some asked ran = absurd on
+  ran_shows left_of failed_of (commands.Check subject goal base step) files others on some asked ran =
       absurd on
-  ran_shows left_of failed_of (commands.Pair c) (s ∷ []) (other ∷ []) on some asked ran =
-      let text = text_of_printed ran in pair_shows s other tt tt tt tt c text.0 some asked text.1
-  ran_shows left_of failed_of (commands.Pair c) (s ∷ p ∷ []) (other ∷ used ∷ []) on some asked ran =
-      let text = text_of_printed ran in pair_shows s other p used tt tt c text.0 some asked text.1
-  ran_shows left_of failed_of (commands.Pair c) (s ∷ p ∷ q ∷ []) (other ∷ used ∷ spent ∷ []) on some
-      asked ran =
-      let text = text_of_printed ran in pair_shows s other p used q spent c text.0 some asked text.1
-  ran_shows left_of failed_of (commands.EqualBy comparison o) files others on some asked ran =
-      absurd (true≢false (sym asked))
+  ran_shows left_of failed_of (commands.Pair (on_pair.Obligations o)) files others on some asked ran =
+      absurd (omega (arith, some))
   ran_shows left_of failed_of (commands.Simulated optimize) (s ∷ p ∷ q ∷ x ∷ y ∷ z ∷ [])
       (other ∷ p_rest ∷ q_rest ∷ x_rest ∷ y_rest ∷ z_rest ∷ []) on some asked runs =
       let both = runs.reads in
@@ -133,7 +112,7 @@ writes_made left failed limit held write_failed a r rest w made result Writes to
     result told refl told.own (λ f fits. so f)
 
 -- a writer that held nothing holds just the text
-only_text : (old new : Option (List ℕ)) (text items : List ℕ) → Appends old new text
+pub only_text : (old new : Option (List ℕ)) (text items : List ℕ) → Appends old new text
     → old ≡ Some [] → new ≡ Some items → items ≡ text
 only_text old new text items appends none all =
     subst (λ n. Appends (Some []) n text) all (subst (λ o. Appends o new text) none appends)
@@ -238,13 +217,8 @@ file_apart c (errors.Unmade e) own = absurd own
 file_apart c e own = (λ is. cc, λ is. is)
 
 pair_apart : (c : PairCommand) (e : CheckError) → IsErrorOfPair c e → IsApart e
-pair_apart c errors.Write own = absurd own
-pair_apart c (errors.Unmade e) own = absurd own
-pair_apart c e own = (λ is. cc, λ is. is)
-
-compare_apart : (e : CheckError) → IsErrorOfComparing e → IsApart e
-compare_apart (errors.Miter e) own = (λ is. cc, λ is. is)
-compare_apart e own = absurd own
+pair_apart (on_pair.Obligations optimize) (errors.Certificate e) own = (λ is. cc, λ is. is)
+pair_apart c e own = absurd own
 
 each_error : {IsOwn IsSuch : CheckError → Type 0} → ((e : CheckError) → IsOwn e → IsSuch e)
     → (x : Result (List ℕ) CheckError) → IfErr x IsOwn → IfErr x IsSuch
@@ -362,20 +336,12 @@ module _ {R S W : Type 0} (left : R → Option (List ℕ)) (failed : R → Bool)
       → Ran left failed left_of failed_of held write_failed limit c r files w result rest others
       made
       → PrintedApart held write_failed w result made
-  ran_apart result (commands.File c) [] [] on ran =
-      apart_as (λ x told. each_error (file_apart c) x told.own) ran
   ran_apart result (commands.File c) (p ∷ []) (used ∷ []) on ran =
       apart_as (λ x told. each_error (file_apart c) x told.own) ran
   ran_apart result (commands.Pair c) (s ∷ []) (other ∷ []) on ran =
-      apart_as (λ x told. each_error (pair_apart c) x told.reads.own) ran
-  ran_apart result (commands.Pair c) (s ∷ p ∷ []) (other ∷ used ∷ []) on ran =
-      apart_as (λ x told. each_error (pair_apart c) x told.reads.own) ran
-  ran_apart result (commands.Pair c) (s ∷ p ∷ q ∷ []) (other ∷ used ∷ spent ∷ []) on ran =
-      apart_as (λ x told. each_error (pair_apart c) x told.reads.own) ran
-  ran_apart result (commands.Check goal base step) files others on ran = absurd on
-  ran_apart result (commands.EqualBy comparison o) (s ∷ c ∷ p ∷ q ∷ [])
-      (other ∷ tried ∷ used ∷ spent ∷ []) on ran =
-      apart_as (λ x told. each_error compare_apart x told.reads.own) ran
+      apart_as (λ x told. each_error (pair_apart c) x told.own) ran
+  ran_apart result (commands.Check subject goal base step) files others on ran = absurd on
+  ran_apart result (commands.Print q) files others on ran = absurd on
   ran_apart result (commands.Simulated o) (s ∷ a ∷ b ∷ c ∷ d ∷ f ∷ [])
       (other ∷ a_rest ∷ b_rest ∷ c_rest ∷ d_rest ∷ f_rest ∷ []) on ran =
       simulated_apart {ps = proofs_of a b c d f}
@@ -440,14 +406,38 @@ checks_where c not = from (beside_of c) not
 pub prints_where : (c : Command) → prints c ≡ true → beside_of c ≡ 0
 prints_where c is = eqb-true (beside_of c) 0 is
 
--- they print of the text
-pub prints_on_text : (c : Command) → beside_of c ≡ 0 → IsOnText c
-prints_on_text (commands.Check (goals.SafeBySteps k form) base step) none = omega (arith, none)
-prints_on_text (commands.Check (goals.Safe k form) base step) none = omega (arith, none)
-prints_on_text (commands.Check goal base step) none = omega (arith, none)
-prints_on_text c none = tt
+-- a goal has a proof
+some_proof : (goal : Goal) → ¬ (proof_count goal ≡ 0)
+some_proof (goals.SafeBySteps k form) none = omega (arith, none)
+some_proof (goals.Safe k form) none = omega (arith, none)
+some_proof goal none = omega (arith, none)
 
--- what was done with the text was done for the justice property
+-- they print of the text, unless they ask a question
+pub prints_on_text : (c : Command) → beside_of c ≡ 0 → ((q : Question) → ¬ (c ≡ commands.Print q))
+    → IsOnText c
+prints_on_text (commands.Check (subjects.MiterCertified comparison) goal base step) none not =
+    omega (arith, none)
+prints_on_text (commands.Check (subjects.File own) goal base step) none not = some_proof goal none
+prints_on_text (commands.Check (subjects.Miter comparison) goal base step) none not =
+    some_proof goal none
+prints_on_text (commands.Check (subjects.Certified own) goal base step) none not =
+    some_proof goal none
+prints_on_text (commands.Print q) none not = absurd (not q refl)
+prints_on_text c none not = tt
+
+-- what was done so was done on the files
+pub ran_all : {S W : Type 0} (left : S → Option (List ℕ)) (failed : S → Bool)
+    (held : W → Option (List ℕ)) (write_failed : W → Bool) (limit : ℕ) (a : Option Justice)
+    (c : Command) (r rest : S) (files others : List S) (w made : W)
+    (x : Result (Unit {0}) CheckError) → IsOnText c
+    → RanBy left failed left failed held write_failed limit a c r files w x rest others made
+    → RanAll left failed held write_failed limit a c (r ∷ files) w x (rest ∷ others) made
+ran_all left failed held write_failed limit a (commands.Check subject goal base step) r rest files
+    others w made x on ran =
+    absurd on
+ran_all left failed held write_failed limit a c r rest files others w made x on ran = ran
+
+-- it was run on the text of what is made
 pub ran_by_text : {R S W : Type 0} (left : R → Option (List ℕ)) (failed : R → Bool)
     (left_of : S → Option (List ℕ)) (failed_of : S → Bool) (held : W → Option (List ℕ))
     (write_failed : W → Bool) (limit : ℕ) (a : Justice) (c : Command) (r rest : R)
@@ -455,15 +445,30 @@ pub ran_by_text : {R S W : Type 0} (left : R → Option (List ℕ)) (failed : R 
     → RanMade left failed left_of failed_of held write_failed limit a c r files w x rest others made
     → RanBy left failed left_of failed_of held write_failed limit (Some a) c r files w x rest others
     made
-ran_by_text left failed left_of failed_of held write_failed limit a (commands.Check goal base step)
-    r rest files others w made x on ran =
+ran_by_text left failed left_of failed_of held write_failed limit a (commands.Print q) r rest files
+    others w made x on ran =
     absurd on
 ran_by_text left failed left_of failed_of held write_failed limit a c r rest files others w made x
     on ran =
     ran
 
--- a command that doesn't check proofs of FILE is on the text
-pub on_text : (c : Command)
-    → ((goal : Goal) (base step : Bool) → ¬ (c ≡ commands.Check goal base step)) → IsOnText c
-on_text (commands.Check goal base step) not = absurd (not goal base step refl)
-on_text c not = tt
+-- a command that checks, but not proofs of a goal, is on the text
+pub on_text : (c : Command) → 0 < beside_of c
+    → ((subject : Subject) (goal : Goal) (base step : Bool)
+    → ¬ (c ≡ commands.Check subject goal base step))
+    → IsOnText c
+on_text (commands.Check subject goal base step) some not = absurd (not subject goal base step refl)
+on_text (commands.Print q) some not = omega (arith, some)
+on_text c some not = tt
+
+-- a question was asked of FILE's circuit
+pub ran_by_question : {S W : Type 0} (left : S → Option (List ℕ)) (failed : S → Bool)
+    (held : W → Option (List ℕ)) (write_failed : W → Bool) (limit : ℕ) (a : Option Justice)
+    (q : Question) (r rest : S) (files others : List S) (w made : W)
+    (x : Result (Unit {0}) CheckError)
+    → RunsQuestion left failed held write_failed limit (file_subject a) q r w x rest made
+    → RanAll left failed held write_failed limit a (commands.Print q) (r ∷ files) w x (rest ∷ others)
+    made
+ran_by_question left failed held write_failed limit None q r rest files others w made x ran = ran
+ran_by_question left failed held write_failed limit (Some a) q r rest files others w made x ran =
+    ran

@@ -1,5 +1,6 @@
 -- Files that are opened in order.
 use Rattle.aig_check_commands.proofs.Words.{◌≡◌, ◌+◌, ◌<◌, ◌≤◌, ℕ, zero, suc, Global, List, String, [], ◌∷◌, ◌++◌, ◌∙◌, Ok, Err, ap, arith, get_or, length, length-append, map, map_more, refl, string_bytes, subst, sym, take, remove, Result, OpenError, Command, CheckError, paths_of, AreOpened, OnOpening, OpensAll, unopened}
+use Rattle.aig_subjects.specs.declared.subject.Subject.TheVariants as subjects
 use Rattle.aig_check_commands.specs.declared.command.Command.TheVariants as commands
 use Rattle.aig_check_commands.specs.declared.error.CheckError.TheVariants as errors
 use Rattle.aig_check_commands.specs.Fits.{AreUnlisted, LacksOne}
@@ -118,9 +119,10 @@ module _ {F : Type 0} (opens : List ℕ → Result F OpenError → Type 0) where
 -- each command is on one file or two
 pub paths_few : (c : Command) → (0 < paths_of c) × (paths_of c ≤ 2)
 paths_few (commands.File c) = (omega arith, omega arith)
+paths_few (commands.Print q) = (omega arith, omega arith)
 paths_few (commands.Pair c) = (omega arith, omega arith)
-paths_few (commands.Check goal o p) = (omega arith, omega arith)
-paths_few (commands.EqualBy comparison o) = (omega arith, omega arith)
+paths_few (commands.Check (subjects.File own) goal o p) = (omega arith, omega arith)
+paths_few (commands.Check subject goal o p) = (omega arith, omega arith)
 paths_few (commands.Simulated o) = (omega arith, omega arith)
 paths_few (commands.Obligation condition o) = (omega arith, omega arith)
 

@@ -1,5 +1,5 @@
 -- What a command does, at each way out of it.
-use Rattle.aig_check_commands.proofs.Words.{◌≡◌, ◌≢◌, ℕ, Bool, false, Option, Ok, Err, List, refl, sym, ap, subst, Appends, IsErrOf, Result, IsAtEnd, File, IsReadAs, Accepted, IsOfFile, Judges, Verdict, of_no_file, short_of, WritesOrStops, AnswerError, IsOfQuery, IsOfWindow, BoundedAnswerError, IsOfQuestion, IsOfWitness, IsSum, FileCommand, CheckError, EndsWith, Printed, IsKnownText, IsSolutionOf, IsTextOf, after_writing, Answers, ChecksFile, IsAskedBy, IsErrorOf, IsOfFileAlone, Runs, TellsOfGiven, TellsOfQuestion, TellsOfSolution, file_verdict, verdict_of}
+use Rattle.aig_check_commands.proofs.Words.{◌≡◌, ◌≢◌, ℕ, Bool, false, Option, Ok, Err, List, refl, sym, ap, subst, Appends, IsErrOf, Result, IsAtEnd, File, IsReadAs, ReadsFile, Accepted, IsOfFile, Judges, Verdict, of_no_file, short_of, WritesOrStops, AnswerError, IsOfQuery, BoundedAnswerError, IsOfWitness, IsSum, FileCommand, CheckError, EndsWith, Printed, IsKnownText, IsSolutionOf, IsTextOf, after_writing, Answers, ChecksFile, IsAskedBy, IsErrorOf, IsOfFileAlone, Runs, TellsOfGiven, TellsOfQuestion, TellsOfSolution, file_verdict, verdict_of}
 use Rattle.aig_encode.specs.declared.encoding.Encoded.{Encoded}
 use Rattle.aig_answers.specs.Answers as asking
 use Rattle.aig_witness.specs.declared.solutions.error.SolutionError.{SolutionError}
@@ -13,22 +13,10 @@ use Rattle.aig_check_commands.specs.declared.error.CheckError.TheVariants as err
 pub is_error : (T E : Type 0) (e x : E) → IsErrOf {T = T} (Err e) x → e ≡ x
 is_error T E e x is = cc
 
--- what an error of a query or of a window tells of a proof: nothing
+-- what an error of a query tells of a proof: nothing
 tells_of_query : (c : FileCommand) (limit : ℕ) (old new given : Option (List ℕ)) (failed : Bool)
     (e : AnswerError) → IsOfQuery e → TellsOfGiven c limit old new given failed (errors.Answer e)
 tells_of_query c limit old new given failed e own = tt
-
-tells_of_window : (c : FileCommand) (limit : ℕ) (old new given : Option (List ℕ)) (failed : Bool)
-    (e : AnswerError) → IsOfWindow e → TellsOfGiven c limit old new given failed (errors.Answer e)
-tells_of_window c limit old new given failed e own = tt
-
--- what one of a question up to a step tells of a proof: nothing
-tells_of_question : (c : FileCommand) (limit : ℕ) (old new given : Option (List ℕ)) (failed : Bool)
-    (e : BoundedAnswerError) → IsOfQuestion e → TellsOfQuestion c limit old new e
-    → TellsOfGiven c limit old new given failed (errors.Bounded e)
-tells_of_question c limit old new given failed (bounded.Solution e) own size = absurd own
-tells_of_question c limit old new given failed (bounded.Question e) own size = size
-tells_of_question c limit old new given failed e own size = tt
 
 -- ---- what is printed
 
@@ -97,7 +85,7 @@ module _ {R P : Type 0} {left : R → Option (List ℕ)} {read_failed : R → Bo
   -- it is answered
   checks_answered : (text : List ℕ)
       → Judges (file_verdict c limit) limit (left r) (left rest) (read_failed rest) Accepted
-      → IsReadAs (IsAskedBy c limit) (Answers c (given p) (left r)) (left r) (left rest) text
+      → IsReadAs (IsAskedBy c limit) (Answers c (given p)) (left r) (left rest) text
       → ChecksFile left read_failed given given_failed c limit r p rest used (Ok text)
   checks_answered text said answers = record {
     verdict = said;
@@ -119,7 +107,7 @@ module _ {R P W : Type 0} {left : R → Option (List ℕ)} {read_failed : R → 
   refused e said own same unread tells =
       error_printed e (checks_refused e said own unread tells) same
 
-  -- there is no query, or no window
+  -- there is no query
   pub query_refused : (e : AnswerError)
       → Judges (file_verdict c limit) limit (left r) (left rest) (read_failed rest)
       (asking.verdict_of e)
@@ -130,61 +118,21 @@ module _ {R P W : Type 0} {left : R → Option (List ℕ)} {read_failed : R → 
       (λ alone. unread)
       (tells_of_query c limit (left r) (left rest) (given p) (given_failed used) e of_query)
 
-  pub window_refused : (e : AnswerError)
-      → Judges (file_verdict c limit) limit (left r) (left rest) (read_failed rest)
-      (asking.verdict_of e)
-      → IsErrorOf c (errors.Answer e) → IsOfWindow e → made ≡ w → used ≡ p
-      → Runs left read_failed given given_failed held write_failed c limit r p w
-      (Err (errors.Answer e)) rest used made
-  window_refused e said own of_window same unread = refused (errors.Answer e) said own same
-      (λ alone. unread)
-      (tells_of_window c limit (left r) (left rest) (given p) (given_failed used) e of_window)
-
-  -- there is no question up to a step
-  pub question_refused : (e : BoundedAnswerError) → Judges (file_verdict c limit) limit (left r)
-      (left rest) (read_failed rest) (bounding.verdict_of e) → IsErrorOf c (errors.Bounded e)
-      → IsOfQuestion e → TellsOfQuestion c limit (left r) (left rest) e → made ≡ w → used ≡ p
-      → Runs left read_failed given given_failed held write_failed c limit r p w
-      (Err (errors.Bounded e)) rest used made
-  question_refused e said own of_question size same unread = refused (errors.Bounded e) said own
-      same (λ alone. unread)
-      (tells_of_question c limit (left r) (left rest) (given p) (given_failed used) e of_question
-      size)
-
   -- the answer was written, or a beginning of it
   pub answer_ends : {E : Type 0} (x : Result (Unit {0}) E) (text : List ℕ)
       → Judges (file_verdict c limit) limit (left r) (left rest) (read_failed rest) Accepted
-      → IsReadAs (IsAskedBy c limit) (Answers c (given p) (left r)) (left r) (left rest) text
+      → IsReadAs (IsAskedBy c limit) (Answers c (given p)) (left r) (left rest) text
       → WritesOrStops held write_failed w x text made
       → Runs left read_failed given given_failed held write_failed c limit r p w (after_writing x)
       rest used made
   answer_ends x text said answers writes =
       text_printed x text (checks_answered text said answers) writes
 
-  -- a query's text was printed, or memory ran out before
-  pub text_ends : (result : Result Unit CheckError) (IsSuch : List ℕ → Type 0)
-      → Judges (file_verdict c limit) limit (left r) (left rest) (read_failed rest) Accepted
-      → ((text : List ℕ) → IsSuch text → IsReadAs (IsAskedBy c limit) (Answers c (given p) (left r))
-      (left r) (left rest) text)
-      → Printed held write_failed (IsTextOf IsSuch) w result made → IsErrorOf c errors.Memory
-      → Runs left read_failed given given_failed held write_failed c limit r p w result rest used
-      made
-  text_ends result IsSuch said answers prints has = printed_on on (λ x ends. ends) prints
-    where
-      on : (x : Result (List ℕ) CheckError) → IsTextOf IsSuch x
-          → ChecksFile left read_failed given given_failed c limit r p rest used x
-      on (Ok text) is = checks_answered text said (answers text is)
-      on (Err e) is = subst (λ (y : CheckError).
-          ChecksFile left read_failed given given_failed c limit r p rest used (Err y)) (sym is)
-          (checks_refused errors.Memory
-          (short_of (file_verdict c limit) limit (left r) (left rest) (read_failed rest) said) has
-          (λ alone. absurd alone) tt)
-
   -- a witness was printed, or a solver's answer was refused before
   pub solution_ends : (result : Result Unit CheckError) (x : Encoded) (k : ℕ)
       → Judges (file_verdict c limit) limit (left r) (left rest) (read_failed rest) Accepted
       → ((text : List ℕ) → IsKnownText (given p) x k text
-      → IsReadAs (IsAskedBy c limit) (Answers c (given p) (left r)) (left r) (left rest) text)
+      → IsReadAs (IsAskedBy c limit) (Answers c (given p)) (left r) (left rest) text)
       → Printed held write_failed (IsSolutionOf (given p) (given_failed used) x k) w result made
       → ((e : SolutionError) → IsErrorOf c (errors.Solution e))
       → ((e : SolutionError) → RefusesSolution (given p) x k (given_failed used) e
@@ -211,6 +159,15 @@ summed start sum said same sums =
     subst (λ bytes. IsSum bytes sum) (sym same) (sums read.0 read.1)
 
 -- ---- files
+
+-- what is told of a source is told of the one under it
+pub file_under : {A R T E : Type 0} {Means : File → Result T E → Type 0} {said : E → Verdict}
+    {Own : E → Type 0} {limit : ℕ} {r rest : A} {result : Result T E} (left : R → Option (List ℕ))
+    (failed : R → Bool) (under : A → R)
+    → ReadsFile (λ x. left (under x)) (λ x. failed (under x)) limit Means said Own r result rest
+    → ReadsFile left failed limit Means said Own (under r) result (under rest)
+file_under left failed under told =
+    record { verdict = told.verdict; answer = told.answer; own = told.own }
 
 -- what was read is read as something else that is meant for the file
 pub read_again : {X Y : Type 0} {Holds : List ℕ → File → Type 0} {Means : File → X → Type 0} {Also :

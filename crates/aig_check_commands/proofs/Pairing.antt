@@ -1,102 +1,48 @@
 -- What a command on two files does, at each way out of it.
-use Rattle.aig_check_commands.proofs.Words.{◌≡◌, ◌≢◌, ℕ, Bool, false, Option, Some, Ok, Err, List, [], ◌∷◌, ◌++◌, length, refl, ap, subst, ◌∙◌, Appends, Appends-trans, on_err_weaker, on_ok_weaker, IsAtEnd, IsErr, IsTrue, Result, AnswerError, WindowClauses, AreObligationsOf, Equals, CertificateError, clauses_in, Lit, Circuit, lists_circuit, HasClauses, ArePassed, parse_formula-passed, parse_formula-dimacs_of, IsFormula, IsTextWith, reads_on, ReadsPair, EqualityError, File, Comparison, Stops-before, Stops-put, failed_put, Stops, WritesOrStops, Verdict, RefutationError, IsSum, Title, PairCommand, CheckError, ChecksPair, IsErrorOfPair, IsObligationsText, LeavesBase, LeavesStep, PairAnswers, RefusesPair, TellsOfPair, formula_of, other_verdict_of, part_text, verdict_of, WritesBehind, clauses_with, pair_title}
+use Rattle.aig_check_commands.proofs.Words.{◌≡◌, ℕ, Bool, false, Option, Some, Ok, Err, List, [], ◌∷◌, ◌++◌, length, refl, ap, subst, ◌∙◌, Appends, Appends-trans, on_err_weaker, on_ok_weaker, IsAtEnd, IsErr, Result, WindowClauses, AreObligationsOf, CertificateError, clauses_in, Lit, Circuit, lists_circuit, HasClauses, ArePassed, parse_formula-passed, parse_formula-dimacs_of, IsFormula, IsTextWith, reads_on, ReadsPair, File, Stops-before, Stops-put, failed_put, Stops, WritesOrStops, Verdict, IsSum, Title, ChecksPair, IsErrorOfPair, IsObligationsText, TellsOfPair, formula_of, other_verdict_of, part_text, verdict_of, WritesBehind, clauses_with, pair_title}
 use Rattle.std.specs.Prelude.{codes}
-use Rattle.aig_answers.specs.declared.error.AnswerError.TheVariants as answers
-use Rattle.aig_answers.specs.declared.bounded_checks.error.BoundedAnswerError.TheVariants as bounded
 use Rattle.aig_answers.specs.Certificates as certificates
+use Rattle.aig_answers.specs.Certificates.{Obliges}
 use Rattle.aig_answers.specs.declared.certificates.asking.Obligations.{Obligations}
-use Rattle.aig_answers.specs.declared.certificates.error.CertificateError.TheVariants as certificate
 use Rattle.aig_dimacs.specs.Reading.{after_comments, parse_formula}
 use Rattle.aig_dimacs.specs.Text.{dimacs_of}
 use Rattle.aig_edits.specs.Joints.{IsJointOf}
 use Rattle.aig_edits.specs.declared.pairing.Pairing.TheVariants.{Certificate}
-use Rattle.aig_answers.specs.declared.equality.error.EqualityError.TheVariants as always
-use Rattle.aig_refutation.specs.declared.error.RefutationError.TheVariants as refutation
-use Rattle.aig_answers.specs.declared.safety.error.SafetyError.TheVariants as proving
 use Rattle.aig_check_commands.specs.Titles.{title_text}
+use Rattle.aig_check_commands.specs.declared.command.PairCommand.TheVariants as commands
 use Rattle.aig_check_commands.specs.declared.error.CheckError.TheVariants as errors
-use Rattle.aig_check_commands.proofs.Outcomes.{is_error, summed}
+use Rattle.aig_check_commands.proofs.Outcomes.{summed}
 
-inner_error : (x y : CertificateError) → errors.Certificate x ≡ errors.Certificate y → x ≡ y
-inner_error x y is = cc
+module _ {R S : Type 0} {left : R → Option (List ℕ)} {failed : R → Bool}
+    {left_of : S → Option (List ℕ)} {failed_of : S → Bool} {optimize : Bool} {limit : ℕ}
+    {r rest : R} {s other : S} where
+  -- a file is refused, or there are no clauses of them
+  pub pair_refused : (e : CertificateError)
+      → ReadsPair left failed left_of failed_of limit (Obliges limit optimize)
+      certificates.first_verdict certificates.second_verdict certificates.IsOfClauses r s (Err e) rest
+      other
+      → ChecksPair left failed left_of failed_of (commands.Obligations optimize) limit r s rest other
+      (Err (errors.Certificate e))
+  pair_refused e reads =
+      reads_on left failed left_of failed_of limit r s rest other
+      (TellsOfPair (commands.Obligations optimize) limit (left r) (left_of s)) verdict_of
+      other_verdict_of (IsErrorOfPair (commands.Obligations optimize)) (Err (errors.Certificate e))
+      reads refl refl reads.own (λ f g bytes others fits also told. told)
 
-no_equality : (x : CertificateError) (y : EqualityError) → errors.Certificate x ≢ errors.Equality y
-no_equality x y is = cc
-
-module _ {R S P Q : Type 0} {left : R → Option (List ℕ)} {failed : R → Bool}
-    {left_of : S → Option (List ℕ)} {failed_of : S → Bool} {base_left : P → Option (List ℕ)}
-    {base_failed : P → Bool} {step_left : Q → Option (List ℕ)} {step_failed : Q → Bool}
-    {c : PairCommand} {limit : ℕ} {r rest : R} {s other : S} {p used : P} {q spent : Q} where
-  module _ {T E : Type 0} (Means : File → File → Result T E → Type 0) {first second : E → Verdict}
-      {Own : E → Type 0} where
-    -- a file is refused, or a proof
-    pub refused_so : (e : E) (x : CheckError)
-        → ReadsPair left failed left_of failed_of limit Means first second Own r s (Err e) rest other
-        → verdict_of x ≡ first e → other_verdict_of x ≡ second e → (Own e → IsErrorOfPair c x)
-        → ((f g : File) → Means f g (Err e)
-        → TellsOfPair c limit (base_left p) (step_left q) (left r) (left_of s) f g (Err x))
-        → (LeavesBase x → used ≡ p) → (LeavesStep x → spent ≡ q)
-        → (x ≡ errors.Certificate (certificate.Query (answers.Refutation refutation.Stream))
-        → IsTrue (base_failed used))
-        → (x ≡ errors.Certificate (certificate.Window (answers.Refutation refutation.Stream))
-        → IsTrue (step_failed spent))
-        → (x ≡ errors.Equality (always.Miter (proving.Base (bounded.Refutation refutation.Stream)))
-        → IsTrue (base_failed used))
-        → (x ≡ errors.Equality (always.Miter (proving.Step (answers.Refutation refutation.Stream)))
-        → IsTrue (step_failed spent))
-        → ChecksPair left failed left_of failed_of base_left base_failed step_left step_failed c
-        limit r s p q rest other used spent (Err x)
-    refused_so e x reads same also own means base step query_stream window_stream base_stream
-        step_stream = record {
-          reads = reads_on left failed left_of failed_of limit r s rest other
-              (TellsOfPair c limit (base_left p) (step_left q) (left r) (left_of s)) verdict_of
-              other_verdict_of (IsErrorOfPair c) (Err x) reads same also (own reads.own)
-              (λ f g bytes others fits also told. means f g told);
-          base_unread = base;
-          step_unread = step;
-          base_stream = λ is. query_stream (is_error (List ℕ) CheckError _ _ is);
-          step_stream = λ is. window_stream (is_error (List ℕ) CheckError _ _ is);
-          miter_base_stream = λ is. base_stream (is_error (List ℕ) CheckError _ _ is);
-          miter_step_stream = λ is. step_stream (is_error (List ℕ) CheckError _ _ is);
-        }
-
-    -- both are answered
-    pub pair_answered : (u : T) (text : List ℕ)
-        → ReadsPair left failed left_of failed_of limit Means first second Own r s (Ok u) rest other
-        → ((f g : File) → Means f g (Ok u)
-        → PairAnswers c limit (base_left p) (step_left q) (left r) (left_of s) f g text)
-        → ChecksPair left failed left_of failed_of base_left base_failed step_left step_failed c
-        limit r s p q rest other used spent (Ok text)
-    pair_answered u text reads means = record {
-      reads = reads_on left failed left_of failed_of limit r s rest other
-          (TellsOfPair c limit (base_left p) (step_left q) (left r) (left_of s)) verdict_of
-          other_verdict_of (IsErrorOfPair c) (Ok text) reads refl refl tt
-          (λ f g bytes others fits also told. means f g told);
-      base_unread = tt;
-      step_unread = tt;
-      base_stream = λ is. absurd cc;
-      step_stream = λ is. absurd cc;
-      miter_base_stream = λ is. absurd cc;
-      miter_step_stream = λ is. absurd cc;
-    }
-
-  -- so of a certificate, and of machines at a step
-  pub pair_refused : {T : Type 0} (Means : File → File → Result T CertificateError → Type 0)
-      {Own : CertificateError → Type 0} (e : CertificateError)
-      → ReadsPair left failed left_of failed_of limit Means certificates.first_verdict
-      certificates.second_verdict Own r s (Err e) rest other
-      → (Own e → IsErrorOfPair c (errors.Certificate e))
-      → ((f g : File) → Means f g (Err e) → RefusesPair c limit (base_left p) (step_left q) f g e)
-      → (certificates.LeavesQuery (Err e) → used ≡ p)
-      → (certificates.LeavesWindow (Err e) → spent ≡ q)
-      → (e ≡ certificate.Query (answers.Refutation refutation.Stream) → IsTrue (base_failed used))
-      → (e ≡ certificate.Window (answers.Refutation refutation.Stream) → IsTrue (step_failed spent))
-      → ChecksPair left failed left_of failed_of base_left base_failed step_left step_failed c limit
-      r s p q rest other used spent (Err (errors.Certificate e))
-  pair_refused Means e reads own means base step base_stream step_stream =
-      refused_so Means e (errors.Certificate e) reads refl refl own means base step
-      (λ is. base_stream (inner_error e _ is)) (λ is. step_stream (inner_error e _ is))
-      (λ is. absurd (no_equality e _ is)) (λ is. absurd (no_equality e _ is))
+  -- their clauses are made
+  pub pair_answered : (o : Obligations) (text : List ℕ)
+      → ReadsPair left failed left_of failed_of limit (Obliges limit optimize)
+      certificates.first_verdict certificates.second_verdict certificates.IsOfClauses r s (Ok o) rest
+      other
+      → ((f g : File) → Obliges limit optimize f g (Ok o)
+      → IsObligationsText optimize (left r) (left_of s) f g text)
+      → ChecksPair left failed left_of failed_of (commands.Obligations optimize) limit r s rest other
+      (Ok text)
+  pair_answered o text reads means =
+      reads_on left failed left_of failed_of limit r s rest other
+      (TellsOfPair (commands.Obligations optimize) limit (left r) (left_of s)) verdict_of
+      other_verdict_of (IsErrorOfPair (commands.Obligations optimize)) (Ok text) reads refl refl tt
+      (λ f g bytes others fits also told. means f g told)
 
 -- what is said of sources is said of those under them
 pub reads_under : {A B R S T E : Type 0} {Means : File → File → Result T E → Type 0}
@@ -137,22 +83,6 @@ summed_under left failed left_of failed_of under under_of start start_of sum bes
       summed start sum read.verdict is sums,
       summed start_of beside (read.other_verdict refl) is_of sums_of,
     )
-
--- equal machines have no window
-pub no_window : {comparison : Comparison} {R S : Type 0} {left : R → Option (List ℕ)} {failed : R → Bool}
-    {left_of : S → Option (List ℕ)} {failed_of : S → Bool} {limit k : ℕ} {optimize : Bool}
-    {proof : Option (List ℕ)} {r rest : R} {s other : S} (e : CertificateError) (x : AnswerError)
-    → ReadsPair left failed left_of failed_of limit (Equals comparison limit k optimize proof)
-    certificates.first_verdict certificates.second_verdict certificates.IsOwn r s (Err e) rest other
-    → e ≢ certificate.Window x
-no_window (certificate.Pair y) x reads is = cc
-no_window (certificate.Query y) x reads is = cc
-no_window (certificate.Window y) x reads is = (reads.answer refl refl).means.means
-
--- the clauses of a certificate are of no proof
-pub no_proof_of_clauses : (e : CertificateError) (x : RefutationError) → certificates.IsOfClauses e
-    → (e ≢ certificate.Query (answers.Refutation x)) × (e ≢ certificate.Window (answers.Refutation x))
-no_proof_of_clauses e x own = (λ is. subst certificates.IsOfClauses is own, λ is. subst certificates.IsOfClauses is own)
 
 -- ---- texts of clauses
 

@@ -1,11 +1,14 @@
 -- A plain reader of clauses passes over their title.
-use Rattle.aig_check_commands.proofs.Words.{◌==◌, ◌/◌, ◌%◌, codes, get_or, AllByRecursion, encode_lower, lower_digits, ArePassed, StaysInside, decimal_inside, ends-append, ends-line_feed, inside-append, inside-cons, line_passed, Bounded, Clauses, Obligation, Obligations, Title, condition_name, Condition, beside_text, distinct_text, numbered_text, question_text, raw_text}
+use Rattle.aig_check_commands.proofs.Words.{◌==◌, ◌/◌, ◌%◌, codes, get_or, AllByRecursion, encode_lower, lower_digits, ArePassed, StaysInside, decimal_inside, ends-append, ends-line_feed, inside-append, inside-cons, line_passed, Title, condition_name, Condition, Window, asked_text, beside_text, form_text, numbered_text, raw_text, topic_text}
 use Rattle.std.proofs.Common.{◌≡◌, ℕ, zero, suc, Bool, true, false, List, [], ◌∷◌, ◌++◌, Option, Some, None, refl}
 use Rattle.aig_base.proofs.Words.{decimal, slice_index}
 use Rattle.hex.specs.Hex.{encode_with}
 use Rattle.aig_dimacs.specs.Reading.{after_comments}
-use Rattle.aig_check_commands.specs.declared.titles.title.Question.{Question}
-use Rattle.aig_check_commands.specs.declared.titles.title.Question.TheVariants.{Window}
+use Rattle.aig_answers.specs.declared.plans.asking.Ask.{Ask}
+use Rattle.aig_answers.specs.declared.plans.asking.Ask.TheVariants as asks
+use Rattle.aig_runs.specs.declared.window.Window.TheVariants.{Distinct, Plain}
+use Rattle.aig_check_commands.specs.declared.titles.title.Topic.{Topic}
+use Rattle.aig_check_commands.specs.declared.titles.title.Topic.TheVariants as topics
 use Rattle.aig_simulation.specs.declared.condition.Condition.TheVariants as conditions
 use Rattle.aig_check_commands.specs.Titles.{title_text}
 
@@ -80,23 +83,23 @@ beside_inside (Some sum) = inside-append (32 ∷ []) (encode_lower sum) (λ rest
 
 -- ---- words
 
-distinct_inside : (distinct : Bool) → StaysInside (distinct_text distinct)
+form_inside : (form : Window) → StaysInside (form_text form)
 unfolding after_comments
-distinct_inside true rest = refl
-distinct_inside false rest = refl
+form_inside Plain rest = refl
+form_inside Distinct rest = refl
 
 raw_inside : (optimize : Bool) → StaysInside (raw_text optimize)
 unfolding after_comments
 raw_inside true rest = refl
 raw_inside false rest = refl
 
-numbered_inside : (name : List ℕ) (k : ℕ) (distinct : Bool) → StaysInside name
-    → StaysInside (numbered_text name k distinct)
+numbered_inside : (name : List ℕ) (k : ℕ) (form : Window) → StaysInside name
+    → StaysInside (numbered_text name k form)
 unfolding after_comments
-numbered_inside name k distinct inside =
+numbered_inside name k form inside =
     let number = inside-append (decimal k) (32 ∷ []) (decimal_inside k) (λ rest. refl) in
-    inside-append (name ++ (decimal k ++ 32 ∷ [])) (distinct_text distinct)
-    (inside-append name (decimal k ++ 32 ∷ []) inside number) (distinct_inside distinct)
+    inside-append (name ++ (decimal k ++ 32 ∷ [])) (form_text form)
+    (inside-append name (decimal k ++ 32 ∷ []) inside number) (form_inside form)
 
 condition_inside : (condition : Condition) → StaysInside (condition_name condition)
 unfolding after_comments
@@ -106,13 +109,17 @@ condition_inside conditions.Property rest = refl
 condition_inside conditions.Base rest = refl
 condition_inside conditions.Step rest = refl
 
-question_inside : (question : Question) → StaysInside (question_text question)
+asked_inside : (ask : Ask) → StaysInside (asked_text ask)
 unfolding after_comments
-question_inside (Clauses k) = numbered_inside (codes "clauses ") k false (λ rest. refl)
-question_inside (Window k distinct) = numbered_inside (codes "window ") k distinct (λ rest. refl)
-question_inside (Bounded k) = numbered_inside (codes "bounded ") k false (λ rest. refl)
-question_inside Obligations = λ rest. refl
-question_inside (Obligation condition) =
+asked_inside (asks.Step k) = numbered_inside (codes "clauses ") k Plain (λ rest. refl)
+asked_inside (asks.UpTo k) = numbered_inside (codes "bounded ") k Plain (λ rest. refl)
+asked_inside (asks.Window k form) = numbered_inside (codes "window ") k form (λ rest. refl)
+
+topic_inside : (topic : Topic) → StaysInside (topic_text topic)
+unfolding after_comments
+topic_inside (topics.Asked ask) = asked_inside ask
+topic_inside topics.Obligations = λ rest. refl
+topic_inside (topics.Obligation condition) =
     inside-append (codes "obligations " ++ condition_name condition) (32 ∷ [])
     (inside-append (codes "obligations ") (condition_name condition) (λ rest. refl)
     (condition_inside condition)) (λ rest. refl)
@@ -130,13 +137,13 @@ name_inside rest = refl
 pub title_passed : (t : Title) → ArePassed (title_text t)
 unfolding title_text
 title_passed t =
-    let asked = codes " aigcheck " ++ question_text t.question in
+    let asked = codes " aigcheck " ++ topic_text t.topic in
     let set = asked ++ raw_text t.optimize in
     let named = set ++ codes "sha256 " in
     let summed = named ++ encode_lower t.sum in
     let both = summed ++ beside_text t.beside in
-    let one = inside-append (codes " aigcheck ") (question_text t.question) name_inside
-    (question_inside t.question) in
+    let one = inside-append (codes " aigcheck ") (topic_text t.topic) name_inside
+    (topic_inside t.topic) in
     let two = inside-append asked (raw_text t.optimize) one (raw_inside t.optimize) in
     let three = inside-append set (codes "sha256 ") two sha_inside in
     let four = inside-append named (encode_lower t.sum) three (sum_inside t.sum) in

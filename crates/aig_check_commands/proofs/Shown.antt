@@ -14,7 +14,7 @@ use Rattle.aig_check_commands.proofs.Outcomes.{err_of, refused}
 -- what was shown answers the file
 pub shown_answers : (limit : ℕ) (old new given : Option (List ℕ)) (shown : ShownProperty)
     → IsReadAs (λ bytes. Accepts bytes limit) (ShowsClaim given) old new shown
-    → IsReadAs (λ bytes. Accepts bytes limit) (Answers commands.Run given old) old new
+    → IsReadAs (λ bytes. Accepts bytes limit) (Answers commands.Run given) old new
     (shown_line shown)
 shown_answers limit old new given shown read = record {
   file = read.file;

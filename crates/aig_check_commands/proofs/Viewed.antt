@@ -1,15 +1,27 @@
 -- What a command does is so of what is seen of its files: of their bytes alone.
-use Rattle.aig_check_commands.proofs.Words.{inl, inr, ◌≡◌, ℕ, ◌+◌, Bool, true, false, List, [], ◌∷◌, Option, None, Some, Ok, Err, ap, fun_ext, map, refl, subst, sym, ◌∙◌, IfErr, IsTrue, Result, option_map, slice_get-map, CertifiesMiter, EqualsBy, MiterError, CertificateError, Circuit, File, Comparison, IsReadAs, Asked, Command, FileCommand, PairCommand, CheckError, ChecksComparing, TellsOfComparing, RanBy, RanOn, Justice, Ran, bytes_of, has_failed, ChecksText, Concludes, MeansMade, PrintsMade, TellsMade, ChecksGoal, ChecksWithin, TellsOfGoal, Goal, HasFairRun, AnswersAt, AreUnread, ChecksCircuit, IsHeld, Tells, Question, WindowClauses, RefutationError, prints, Printed, ChecksPair, ChecksFile, nothing_fails, nothing_given, LeavesProof, RunsObligation, RunsSimulated, TellsOfSimulated, Proofs, proof_for, proofs_of, Condition}
-use Rattle.aig_answers.specs.declared.certificates.compare_error.MiterError.TheVariants as miter
+use Rattle.aig_check_commands.proofs.Words.{◌≡◌, ℕ, ◌+◌, Bool, true, false, List, [], ◌∷◌, Option, None, Some, Ok, Err, ap, fun_ext, map, refl, subst, sym, ◌∙◌, IfErr, IsTrue, Result, option_map, slice_get-map, Circuit, File, IsReadAs, Asked, Command, FileCommand, PairCommand, CheckError, RanBy, RanOn, Justice, Ran, bytes_of, has_failed, ChecksText, Concludes, MeansMade, PrintsMade, TellsMade, HasFairRun, AnswersAt, AreUnread, ChecksCircuit, IsHeld, Tells, Question, WindowClauses, RefutationError, prints, Printed, ChecksPair, ChecksFile, nothing_fails, nothing_given, LeavesProof, RunsObligation, RunsSimulated, TellsOfSimulated, Proofs, proof_for, proofs_of, Condition}
 use Rattle.aig_check_commands.specs.declared.command.Command.TheVariants as commands
 use Rattle.aig_check_commands.specs.declared.error.CheckError.TheVariants as errors
-use Rattle.aig_check_commands.specs.Goals.{no_run_line, plan_of}
+use Rattle.std.specs.List.{drop-map, take-map}
+use Rattle.std.specs.Prelude.{drop, take}
+use Rattle.aig_reader.specs.Verdicts.{Accepted, Verdict}
+use Rattle.aig_subjects.specs.Reads.{AreReadAs}
+use Rattle.aig_subjects.specs.Subjects.{file_count}
+use Rattle.aig_subjects.specs.declared.subject.Subject.{Subject}
+use Rattle.aig_answers.specs.Goals.{ChecksGoal, LeavesProofs, TellsOfGoal, goal_verdicts, plan_of}
+use Rattle.aig_answers.specs.declared.goals.error.GoalFault.{GoalFault}
+use Rattle.aig_answers.specs.declared.goals.error.GoalFault.TheVariants as goal_faults
+use Rattle.aig_answers.specs.declared.goals.goal.Goal.{Goal}
+use Rattle.aig_check_commands.specs.Acting.{RanAll}
+use Rattle.aig_check_commands.specs.Checked.{AnswersCheck}
+use Rattle.aig_check_commands.specs.Goals.{no_run_line}
+use Rattle.aig_check_commands.specs.Justice.{subject_of}
 use Rattle.aig_answers.specs.declared.plans.errors.PlanError.{PlanError}
 use Rattle.aig_answers.specs.declared.plans.errors.PlanError.TheVariants as plans
 use Rattle.aig_answers.specs.declared.plans.errors.Why.{Why}
 use Rattle.aig_answers.specs.declared.plans.errors.Why.TheVariants as whys
 use Rattle.aig_simulation.specs.declared.condition.Condition.TheVariants as conditions
-use Rattle.aig_check_commands.proofs.Outcomes.{printed_on}
+use Rattle.aig_check_commands.proofs.Outcomes.{file_under, printed_on}
 use Rattle.aig_check_commands.proofs.Pairing.{reads_under}
 
 -- a value of the same file, with another meaning
@@ -92,66 +104,86 @@ module _ {S B : Type 0} (on : S → B) (left : B → Option (List ℕ)) (failed 
     )
     plan_seen (Err e) told = (told.0, ap (λ (l : List S). map on l) told.1)
 
-    within_seen : (x : Result (Unit {0}) PlanError)
-        → ChecksWithin (λ y. left (on y)) (λ y. failed (on y)) limit plan c proofs others x
-        → ChecksWithin left failed limit plan c (map on proofs) (map on others) x
-    within_seen x (inl many) = inl (many.0, many.1, ap (λ (l : List S). map on l) many.2)
-    within_seen x (inr within) = inr (within.0, plan_seen x within.1)
-
-module _ {S B : Type 0} (on : S → B) (left_of : B → Option (List ℕ)) (failed_of : B → Bool)
-    (comparison : Comparison) (optimize : Bool) (limit : ℕ) (base step : Option (List ℕ)) (c tried : S) where
-  certifies_seen : (f g : File) (x : Result (Unit {0}) CertificateError)
-      → CertifiesMiter comparison (λ y. left_of (on y)) (λ y. failed_of (on y)) limit optimize
-      base step c tried f g x
-      → CertifiesMiter comparison left_of failed_of limit optimize base step (on c)
-      (on tried) f g x
-  certifies_seen f g x told =
-      (told.0, told.1, record { verdict = told.2.verdict; answer = told.2.answer })
-
-  equals_seen : (f g : File) (x : Result (Unit {0}) MiterError)
-      → EqualsBy comparison (λ y. left_of (on y)) (λ y. failed_of (on y)) limit optimize base step c
-      tried f g x
-      → EqualsBy comparison left_of failed_of limit optimize base step (on c)
-      (on tried) f g x
-  equals_seen f g (Ok u) told = (told.0, certifies_seen f g (Ok tt) told.1)
-  equals_seen f g (Err (miter.Pair e)) told = told
-  equals_seen f g (Err (miter.Certificate e)) told = certifies_seen f g (Err e) told
-
-  told_seen : (f g : File) (x : Result (List ℕ) CheckError)
-      → TellsOfComparing (λ y. left_of (on y)) (λ y. failed_of (on y)) comparison optimize limit base step
-      c tried f g x
-      → TellsOfComparing left_of failed_of comparison optimize limit base step (on c) (on tried) f g x
-  told_seen f g (Ok text) told = (told.0, equals_seen f g (Ok tt) told.1)
-  told_seen f g (Err (errors.Miter e)) told = equals_seen f g (Err e) told
-  told_seen f g (Err e) told = absurd told
-
 -- so are the proofs of a goal
-module _ {S B : Type 0} (on : S → B) (left : B → Option (List ℕ)) (failed : B → Bool) (limit : ℕ)
-    (a : Option Justice) (goal : Goal) (base step : Bool) (proofs others : List S) (f : File) where
-  goal_told : (x : Result (List ℕ) CheckError)
-      → TellsOfGoal (λ y. left (on y)) (λ y. failed (on y)) limit a goal base step proofs others f x
-      → TellsOfGoal left failed limit a goal base step (map on proofs) (map on others) f x
-  goal_told (Ok text) told = (
-    told.0,
-    told.1,
-    (
-      told.2.0,
-      told.2.1,
-      within_seen on left failed limit (plan_of goal base step) told.2.0 proofs others (Ok tt)
-          told.2.2,
-    ),
-  )
-  goal_told (Err (errors.Goal e)) told = (
+module _ {P B : Type 0} (on : P → B) (given : B → Option (List ℕ)) (given_failed : B → Bool)
+    (limit : ℕ) (subject : Subject) (goal : Goal) (base step : Bool) (proofs others : List P)
+    (files : List File) where
+  goal_told : (x : Result (Unit {0}) GoalFault)
+      → TellsOfGoal (λ y. given (on y)) (λ y. given_failed (on y)) limit subject goal base step proofs
+      others files x
+      → TellsOfGoal given given_failed limit subject goal base step (map on proofs) (map on others)
+      files x
+  goal_told (Ok u) told = (
     told.0,
     (
       told.1.0,
       told.1.1,
-      within_seen on left failed limit (plan_of goal base step) told.1.0 proofs others (Err e.error)
+      plan_seen on given given_failed limit (plan_of goal base step) told.1.0 proofs others (Ok tt)
           told.1.2,
     ),
   )
-  goal_told (Err (errors.Unmade e)) told = told
-  goal_told (Err e) told = told
+  goal_told (Err (goal_faults.Plan e)) told = (
+    told.0,
+    told.1,
+    plan_seen on given given_failed limit (plan_of goal base step) told.0 proofs others (Err e) told.2,
+  )
+  goal_told (Err (goal_faults.Subject e)) told = told
+  goal_told (Err goal_faults.Memory) told = told
+
+-- and the files
+module _ {S A T : Type 0} (to : S → A) (left : A → Option (List ℕ)) (failed : A → Bool) (limit : ℕ)
+  where
+    files_seen : (said : List Verdict) (Means Also : List File → T → Type 0) (before after : List S)
+        (value : T) → ((files : List File) → Means files value → Also files value)
+        → AreReadAs (λ y. left (to y)) (λ y. failed (to y)) limit Means said before after value
+        → AreReadAs left failed limit Also said (map to before) (map to after) value
+    files_seen [] Means Also before after value so told =
+        (so [] told.0, ap (λ (l : List S). map to l) told.1)
+    files_seen (Accepted ∷ said) Means Also (r ∷ before) (rest ∷ after) value so told = (
+      told.0,
+      read_as _ _ (λ f. files_seen said (λ files. Means (f ∷ files)) (λ files. Also (f ∷ files)) before
+          after value (λ files. so (f ∷ files))) told.1,
+    )
+    files_seen (v ∷ said) Means Also (r ∷ before) (rest ∷ after) value so told =
+        (told.0, ap (λ (l : List S). map to l) told.1)
+    files_seen said Means Also before after value so told = absurd told
+
+module _ {S A P B : Type 0} (to : S → A) (left : A → Option (List ℕ)) (failed : A → Bool)
+    (on : P → B) (given : B → Option (List ℕ)) (given_failed : B → Bool) (limit : ℕ)
+    (subject : Subject) (goal : Goal) (base step : Bool) (before after : List S)
+    (proofs others : List P) where
+  proofs_unread : (x : Result (Unit {0}) GoalFault)
+      → IfErr x (λ e. LeavesProofs e → others ≡ proofs)
+      → IfErr x (λ e. LeavesProofs e → map on others ≡ map on proofs)
+  proofs_unread (Ok u) unread = tt
+  proofs_unread (Err e) unread = λ is. ap (λ (l : List P). map on l) (unread is)
+
+  goal_seen : (x : Result (Unit {0}) GoalFault)
+      → ChecksGoal (λ y. left (to y)) (λ y. failed (to y)) (λ y. given (on y))
+      (λ y. given_failed (on y)) limit subject goal base step before proofs x after others
+      → ChecksGoal left failed given given_failed limit subject goal base step (map to before)
+      (map on proofs) x (map to after) (map on others)
+  goal_seen x told = record {
+    reads = record {
+      reads = files_seen to left failed limit (goal_verdicts subject x)
+          (TellsOfGoal (λ y. given (on y)) (λ y. given_failed (on y)) limit subject goal base step
+          proofs others)
+          (TellsOfGoal given given_failed limit subject goal base step (map on proofs)
+          (map on others)) before after x
+          (λ files. goal_told on given given_failed limit subject goal base step proofs others files x)
+          told.reads.reads;
+      own = told.reads.own;
+    };
+    unread = proofs_unread x told.unread;
+  }
+
+  pub check_seen : (x : Result (List ℕ) CheckError)
+      → AnswersCheck (λ y. left (to y)) (λ y. failed (to y)) (λ y. given (on y))
+      (λ y. given_failed (on y)) limit subject goal base step before proofs after others x
+      → AnswersCheck left failed given given_failed limit subject goal base step (map to before)
+      (map on proofs) (map to after) (map on others) x
+  check_seen x told =
+      record { checked = told.checked; checks = goal_seen told.checked told.checks; told = told.told }
 
 -- proofs as they are seen
 abbrev proofs_seen_as : {S B : Type 0} → (S → B) → Proofs S → Proofs B
@@ -208,70 +240,12 @@ module _ {R A : Type 0} (to : R → A) (left : A → Option (List ℕ)) (failed 
     refusal = told.refusal;
   }
 
-  pub two_seen : {S P Q B C D : Type 0} (on : S → B) (left_of : B → Option (List ℕ))
-      (failed_of : B → Bool) (by : P → C) (base_left : C → Option (List ℕ)) (base_failed : C → Bool)
-      (at : Q → D) (step_left : D → Option (List ℕ)) (step_failed : D → Bool)
-      {c : PairCommand} {s other : S} {p used : P} {q spent : Q}
+  pub two_seen : {S B : Type 0} (on : S → B) (left_of : B → Option (List ℕ)) (failed_of : B → Bool)
+      (c : PairCommand) {s other : S}
       → ChecksPair (λ y. left (to y)) (λ y. failed (to y)) (λ y. left_of (on y))
-      (λ y. failed_of (on y)) (λ y. base_left (by y)) (λ y. base_failed (by y))
-      (λ y. step_left (at y)) (λ y. step_failed (at y)) c limit r s p q rest other used spent x
-      → ChecksPair left failed left_of failed_of base_left base_failed step_left step_failed c limit
-      (to r) (on s) (by p) (at q) (to rest) (on other) (by used) (at spent) x
-  two_seen on left_of failed_of by base_left base_failed at step_left step_failed {p = p}
-      {used = used} {q = q} {spent = spent} told = record {
-        reads = reads_under left failed left_of failed_of to on told.reads;
-        base_unread = left_as by _ p used x told.base_unread;
-        step_unread = left_as at _ q spent x told.step_unread;
-        base_stream = told.base_stream;
-        step_stream = told.step_stream;
-        miter_base_stream = told.miter_base_stream;
-        miter_step_stream = told.miter_step_stream;
-      }
-
-  module _ {S B : Type 0} (on : S → B) (left_of : B → Option (List ℕ)) (failed_of : B → Bool) where
-    module _ (a : Option Justice) (goal : Goal) (base step : Bool) (proofs others : List S) where
-      pub goal_seen : ChecksGoal (λ y. left (to y)) (λ y. failed (to y)) (λ y. left_of (on y))
-          (λ y. failed_of (on y)) limit a goal base step r proofs rest others x
-          → ChecksGoal left failed left_of failed_of limit a goal base step (to r) (map on proofs)
-          (to rest) (map on others) x
-      goal_seen told = record {
-        reads = record {
-          verdict = told.reads.verdict;
-          answer = λ is. read_as _ _ (λ f. goal_told on left_of failed_of limit a goal base step
-              proofs others f x) (told.reads.answer is);
-          own = told.reads.own;
-        };
-        unread = left_as (λ (l : List S). map on l) _ proofs others x told.unread;
-      }
-
-    pub miter_seen : {comparison : Comparison} {optimize : Bool} {s other c tried p used q spent : S}
-        → ChecksComparing (λ y. left (to y)) (λ y. failed (to y)) (λ y. left_of (on y))
-        (λ y. failed_of (on y)) (λ y. left_of (on y)) (λ y. failed_of (on y)) (λ y. left_of (on y))
-        (λ y. failed_of (on y)) (λ y. left_of (on y)) (λ y. failed_of (on y)) comparison optimize limit
-        r s c p q rest other tried used spent x
-        → ChecksComparing left failed left_of failed_of left_of failed_of left_of failed_of left_of
-        failed_of comparison optimize limit (to r) (on s) (on c) (on p) (on q) (to rest)
-        (on other) (on tried)
-        (on used) (on spent) x
-    miter_seen {comparison = comparison} {optimize = optimize} {c = c} {tried = tried} {p = p} {used = used} {q = q}
-        {spent = spent} told =
-        let reads = reads_under left failed left_of failed_of to on told.reads in
-        record {
-          reads = record {
-            verdict = reads.verdict;
-            other_verdict = reads.other_verdict;
-            unread = reads.unread;
-            own = reads.own;
-            answer = λ first second. read_as _ _ (λ f. read_as _ _ (λ g. told_seen on left_of
-                failed_of comparison optimize limit (left_of (on p)) (left_of (on q)) c tried f g x))
-                (reads.answer first second);
-          };
-          certificate_unread = left_as on _ c tried x told.certificate_unread;
-          base_unread = left_as on _ p used x told.base_unread;
-          step_unread = left_as on _ q spent x told.step_unread;
-          base_stream = told.base_stream;
-          step_stream = told.step_stream;
-        }
+      (λ y. failed_of (on y)) c limit r s rest other x
+      → ChecksPair left failed left_of failed_of c limit (to r) (on s) (to rest) (on other) x
+  two_seen on left_of failed_of c told = reads_under left failed left_of failed_of to on told
 
 -- ---- what is done
 
@@ -331,25 +305,12 @@ module _ {R A : Type 0} (to : R → A) (left : A → Option (List ℕ)) (failed 
       held write_failed limit c r files w result rest others made
       → Ran left failed left_of failed_of held write_failed limit c (to r) (map on files) w result
       (to rest) (map on others) made
-  ran_seen on left_of failed_of (commands.File c) [] [] ran =
-      still_printed (λ x. checks_seen to left failed x same nothing_given nothing_fails) ran
   ran_seen on left_of failed_of (commands.File c) (p ∷ []) (used ∷ []) ran =
       still_printed (λ x. checks_seen to left failed x on left_of failed_of) ran
+  ran_seen on left_of failed_of (commands.Print q) files others ran =
+      still_printed (λ x. file_under left failed to) ran
   ran_seen on left_of failed_of (commands.Pair c) (s ∷ []) (other ∷ []) ran =
-      still_printed (λ x. two_seen to left failed x on left_of failed_of same nothing_given
-      nothing_fails same nothing_given nothing_fails) ran
-  ran_seen on left_of failed_of (commands.Pair c) (s ∷ p ∷ []) (other ∷ used ∷ []) ran =
-      still_printed (λ x. two_seen to left failed x on left_of failed_of on left_of failed_of same
-      nothing_given nothing_fails) ran
-  ran_seen on left_of failed_of (commands.Pair c) (s ∷ p ∷ q ∷ []) (other ∷ used ∷ spent ∷ []) ran =
-      still_printed (λ x. two_seen to left failed x on left_of failed_of on left_of failed_of on
-      left_of failed_of) ran
-  ran_seen on left_of failed_of (commands.Check goal base step) proofs others ran =
-      still_printed (λ x. goal_seen to left failed x on left_of failed_of None goal base step proofs
-      others) ran
-  ran_seen on left_of failed_of (commands.EqualBy comparison optimize) (s ∷ c ∷ p ∷ q ∷ [])
-      (other ∷ tried ∷ used ∷ spent ∷ []) ran =
-      still_printed (λ x. miter_seen to left failed x on left_of failed_of) ran
+      still_printed (λ x. two_seen to left failed x on left_of failed_of c) ran
   ran_seen on left_of failed_of (commands.Simulated optimize) (s ∷ a ∷ b ∷ c ∷ d ∷ e ∷ [])
       (other ∷ a_rest ∷ b_rest ∷ c_rest ∷ d_rest ∷ e_rest ∷ []) ran =
       simulated_seen on left_of failed_of optimize s other (proofs_of a b c d e)
@@ -435,9 +396,8 @@ module _ {S B : Type 0} (on : S → B) (left_of : B → Option (List ℕ)) (fail
     by_seen c None ran =
         ran_seen to left failed held write_failed limit r rest w made x on left_of failed_of c files
         others ran
-    by_seen (commands.Check goal base step) (Some a) ran =
-        still_printed (λ y. goal_seen to left failed y on left_of failed_of (Some a) goal base step
-        files others) ran
+    by_seen (commands.Print q) (Some a) ran =
+        still_printed (λ y. file_under left failed to) ran
     by_seen c (Some a) ran = record {
       reads = record {
         verdict = ran.reads.verdict;
@@ -452,14 +412,31 @@ module _ {S B : Type 0} (on : S → B) (left_of : B → Option (List ℕ)) (fail
     }
 
 -- so on files
+module _ {S B : Type 0} (on : S → B) (left : B → Option (List ℕ)) (failed : B → Bool) {W : Type 0}
+    (held : W → Option (List ℕ)) (write_failed : W → Bool) (limit : ℕ) (a : Option Justice)
+    (w made : W) (x : Result (Unit {0}) CheckError) where
+  all_seen : (c : Command) (files others : List S)
+      → RanAll (λ y. left (on y)) (λ y. failed (on y)) held write_failed limit a c files w x others made
+      → RanAll left failed held write_failed limit a c (map on files) w x (map on others) made
+  all_seen (commands.Check subject goal base step) files others ran =
+      let count = file_count subject in
+      rw (
+        take-map on count files,
+        drop-map on count files,
+        take-map on count others,
+        drop-map on count others,
+      ) (still_printed (check_seen on left failed on left failed limit
+      (subject_of a subject) goal base step (take count files) (take count others)
+      (drop count files) (drop count others)) ran)
+  all_seen c (r ∷ files) (rest ∷ others) ran =
+      by_seen on left failed held write_failed limit files others w made on left failed r rest x c a ran
+  all_seen c files others ran = absurd ran
+
 pub on_seen : {S B : Type 0} (on : S → B) (left : B → Option (List ℕ)) (failed : B → Bool)
     {W : Type 0} (held : W → Option (List ℕ)) (write_failed : W → Bool) (limit : ℕ) (asked : Asked)
     (w made : W) (x : Result (Unit {0}) CheckError) (files others : List S)
     → RanOn (λ y. left (on y)) (λ y. failed (on y)) held write_failed limit asked files w x others
     made
     → RanOn left failed held write_failed limit asked (map on files) w x (map on others) made
-on_seen on left failed held write_failed limit asked w made x (r ∷ files) (rest ∷ others) ran =
-    by_seen on left failed held write_failed limit files others w made on left failed r rest x
-    asked.command asked.justice ran
-on_seen on left failed held write_failed limit asked w made x [] others ran = absurd ran
-on_seen on left failed held write_failed limit asked w made x (r ∷ files) [] ran = absurd ran
+on_seen on left failed held write_failed limit asked w made x files others ran =
+    all_seen on left failed held write_failed limit asked.justice w made x asked.command files others ran

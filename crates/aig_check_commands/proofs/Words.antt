@@ -1,16 +1,12 @@
 -- Words that proofs share, from one place.
 pub use Rattle.aig_answers.proofs.NamelessWindows.{asks_of_file, steps_named, with_names}
-pub use Rattle.aig_answers.specs.Answers.{IsCircuitOf, IsOfQuery, IsOfWindow, query_with, without_names}
-pub use Rattle.aig_answers.specs.Asking.{AnswersCircuit, AsksBounded, AsksOfBads, IsOfQuestion, IsOfWitness, IsSettled}
-pub use Rattle.aig_answers.specs.Certificates.{AreObligationsOf, Equals}
-pub use Rattle.aig_answers.specs.Comparing.{CertifiesMiter, EqualsBy}
-pub use Rattle.aig_answers.specs.Equality.{AlwaysEquals}
-pub use Rattle.aig_answers.specs.Plans.{AnswersAt, AreUnread, CanBeAsked, ChecksCircuit, Covers, Holds, IsHeld, Tells, asked_with, plan_each, plan_to, step_questions}
+pub use Rattle.aig_answers.specs.Answers.{IsCircuitOf, IsCircuitQuery, IsOfQuery, query_with, without_names, window_size}
+pub use Rattle.aig_answers.specs.Asking.{AsksOfBads, IsOfWitness, IsSettled}
+pub use Rattle.aig_answers.specs.Certificates.{AreObligationsOf}
+pub use Rattle.aig_answers.specs.Plans.{AnswersAt, AreUnread, CanBeAsked, ChecksCircuit, Covers, HasNone, HasRoom, Holds, IsHeld, Makes, Tells, asked_with, clauses_only, plan_each, plan_to, room_of, step_questions}
 pub use Rattle.aig_answers.specs.declared.bounded_checks.clauses.BoundedClauses.{BoundedClauses}
 pub use Rattle.aig_answers.specs.declared.bounded_checks.error.BoundedAnswerError.{BoundedAnswerError}
-pub use Rattle.aig_answers.specs.declared.certificates.compare_error.MiterError.{MiterError}
 pub use Rattle.aig_answers.specs.declared.certificates.error.CertificateError.{CertificateError}
-pub use Rattle.aig_answers.specs.declared.equality.error.EqualityError.{EqualityError}
 pub use Rattle.aig_answers.specs.declared.error.AnswerError.{AnswerError}
 pub use Rattle.aig_answers.specs.declared.plans.asking.Question.{Question}
 pub use Rattle.aig_answers.specs.declared.windows.WindowClauses.{WindowClauses}
@@ -19,27 +15,27 @@ pub use Rattle.aig_base.specs.Clauses.{lit_to, variable_of}
 pub use Rattle.aig_base.specs.Formula.{clauses_in}
 pub use Rattle.aig_base.specs.declared.logic.literal.Lit.{Lit}
 pub use Rattle.aig_check_commands.specs.Acting.{Acts, RanBy, RanOn}
-pub use Rattle.aig_check_commands.specs.Bounded.{IsBoundedText, letter_of, place_line}
-pub use Rattle.aig_check_commands.specs.Checked.{ChecksGoal, ChecksWithin, GivesCircuit, IsAskedOf, IsMadeOwn, TellsOfGoal, made_verdict}
-pub use Rattle.aig_check_commands.specs.CheckedParts.{IsReady}
+pub use Rattle.aig_check_commands.specs.Bounded.{letter_of, place_line}
 pub use Rattle.aig_check_commands.specs.CommandWords.{AreCommand, FitNone, Give, IsAlone, IsCall, IsOf, IsOnWitness, IsWhole, beside_of, command_of, form_of, name_of, of_both, paths_of, prints, raw_alone, raw_word, under, witness_form, witness_name}
 pub use Rattle.aig_check_commands.specs.Comments.{bad_line, input_line, latch_comment}
-pub use Rattle.aig_check_commands.specs.Comparing.{ChecksComparing, IsErrorOfComparing, TellsOfComparing}
 pub use Rattle.aig_check_commands.specs.Explaining.{IsRefusedIn}
 pub use Rattle.aig_check_commands.specs.Inputs.{Ran, Stream, bytes_of, has_failed}
-pub use Rattle.aig_check_commands.specs.Justice.{AreJustice, IsNumbered, is_asked, is_asked_by}
+pub use Rattle.aig_check_commands.specs.Justice.{AreJustice, IsNumbered, is_asked}
 pub use Rattle.aig_check_commands.specs.Living.{ChecksMade, ChecksText, Concludes, IsOfMaking, IsOnText, MeansMade, PrintsMade, RanMade, RunsMade, TellsMade, keeps_nothing, never_fails}
 pub use Rattle.aig_check_commands.specs.LivingParts.{MakesText, WritesMade, text_error}
-pub use Rattle.aig_check_commands.specs.Made.{IsMadeOf, IsUnmade}
+pub use Rattle.aig_check_commands.specs.Made.{IsMadeOf, IsMadeOwn, IsUnmade, made_verdict}
 pub use Rattle.aig_check_commands.specs.Opening.{AreOpened, OnOpening, OpensAll, unopened}
-pub use Rattle.aig_check_commands.specs.Pairs.{AlwaysEqualsBy, ChecksPair, IsErrorOfPair, IsObligationsText, LeavesBase, LeavesStep, PairAnswers, RefusesPair, TellsOfPair, always_line, comparison_text, equal_line, formula_of, other_verdict_of, own_text, part_text, safe_line, starts_text}
+pub use Rattle.aig_check_commands.specs.Pairs.{ChecksPair, IsErrorOfPair, IsObligationsText, TellsOfPair, formula_of, other_verdict_of, part_text}
+pub use Rattle.aig_check_commands.specs.EqualLines.{always_line, comparison_text, equal_line, starts_text}
+pub use Rattle.aig_check_commands.specs.Goals.{safe_line}
 pub use Rattle.aig_check_commands.specs.Printed.{EndsWith, Printed}
-pub use Rattle.aig_check_commands.specs.Printing.{IsKnownText, IsQueryText, IsSolutionOf, IsTextOf, WritesBehind, after_writing, clauses_with}
-pub use Rattle.aig_check_commands.specs.Running.{Answers, ChecksFile, IsAskedBy, IsClausesText, IsErrorOf, IsOfFileAlone, Runs, TellsOfGiven, TellsOfQuestion, TellsOfSolution, error_of_claim, file_verdict, nothing_fails, nothing_given, shown_line, verdict_of}
+pub use Rattle.aig_check_commands.specs.Printing.{GivesSummed, IsKnownText, IsSolutionOf, IsTextOf, IsTextOfQuestion, WritesBehind, after_writing, clauses_error, clauses_with}
+pub use Rattle.aig_check_commands.specs.Questions.{AnswersQuestion, ArePrinted, HasNoClauses, IsQuestionText, RunsQuestion, TellsOfClauses, question_error, summed_text}
+pub use Rattle.aig_check_commands.specs.Running.{Answers, ChecksFile, IsAskedBy, IsErrorOf, IsOfFileAlone, Runs, TellsOfGiven, TellsOfQuestion, TellsOfSolution, error_of_claim, file_verdict, nothing_fails, nothing_given, shown_line, verdict_of}
 pub use Rattle.aig_check_commands.specs.Simulating.{IsErrorOfObligation, IsErrorOfSimulated, IsObligationText, LeavesProof, RunsObligation, RunsSimulated, TellsOfObligation, TellsOfSimulated, refusal_of}
 pub use Rattle.aig_check_commands.specs.Sums.{IsSum, Sums}
-pub use Rattle.aig_check_commands.specs.Titles.{beside_text, distinct_text, numbered_text, question_text, raw_text}
-pub use Rattle.aig_check_commands.specs.Titling.{condition_title, is_distinct, pair_title, title_of}
+pub use Rattle.aig_check_commands.specs.Titles.{asked_text, beside_text, form_text, numbered_text, raw_text, topic_text}
+pub use Rattle.aig_check_commands.specs.Titling.{condition_title, pair_title, title_of}
 pub use Rattle.aig_check_commands.specs.Under.{source_of}
 pub use Rattle.aig_check_commands.specs.declared.command.Action.{Action}
 pub use Rattle.aig_check_commands.specs.declared.command.Asked.{Asked}
@@ -48,9 +44,7 @@ pub use Rattle.aig_check_commands.specs.declared.command.FileCommand.{FileComman
 pub use Rattle.aig_check_commands.specs.declared.command.PairCommand.{PairCommand}
 pub use Rattle.aig_check_commands.specs.declared.command.WitnessAction.{WitnessAction}
 pub use Rattle.aig_check_commands.specs.declared.error.CheckError.{CheckError}
-pub use Rattle.aig_check_commands.specs.declared.goals.Goal.{Goal}
 pub use Rattle.aig_check_commands.specs.declared.justice.Justice.{Justice}
-pub use Rattle.aig_check_commands.specs.declared.titles.title.Question.TheVariants.{Bounded, Clauses, Obligation, Obligations}
 pub use Rattle.aig_check_commands.specs.declared.titles.title.Title.{Title}
 pub use Rattle.aig_circuit.proofs.Words.{IsCircuit, IsLeaf, Properties, edge_to, lit_of, no_properties, only_false}
 pub use Rattle.aig_circuit.specs.Circuit.{Circuit, IsInRange, IsLatch, latch_leaves}

@@ -1,20 +1,12 @@
 -- Part of what is promised.
 -- What is told of a proof that is refused as one of other clauses is.
 use Rattle.std.specs.Prelude.{◌≡◌, ℕ, Bool, true, false, List, Option, Some, codes}
-use Rattle.aig_answers.specs.declared.error.AnswerError.{AnswerError}
-use Rattle.aig_answers.specs.declared.error.AnswerError.TheVariants as answers
-use Rattle.aig_answers.specs.declared.bounded_checks.error.BoundedAnswerError.{BoundedAnswerError}
-use Rattle.aig_answers.specs.declared.bounded_checks.error.BoundedAnswerError.TheVariants as bounded
-use Rattle.aig_answers.specs.declared.certificates.compare_error.MiterError.TheVariants as miter
-use Rattle.aig_answers.specs.declared.certificates.error.CertificateError.{CertificateError}
-use Rattle.aig_answers.specs.declared.certificates.error.CertificateError.TheVariants as certificate
 use Rattle.aig_command_line.specs.declared.status.Ending.{Ending}
 use Rattle.aig_command_line.specs.declared.status.Ending.TheVariants as endings
-use Rattle.aig_answers.specs.declared.equality.error.EqualityError.TheVariants as equality
 use Rattle.aig_refutation.specs.declared.error.RefutationError.{RefutationError}
 use Rattle.aig_refutation.specs.declared.error.RefutationError.TheVariants as refutation
-use Rattle.aig_answers.specs.declared.safety.error.SafetyError.{SafetyError}
-use Rattle.aig_answers.specs.declared.safety.error.SafetyError.TheVariants as safety
+use Rattle.aig_answers.specs.declared.goals.error.GoalFault.{GoalFault}
+use Rattle.aig_answers.specs.declared.goals.error.GoalFault.TheVariants as goal_faults
 use Rattle.aig_answers.specs.declared.plans.errors.PlanError.{PlanError}
 use Rattle.aig_answers.specs.declared.plans.errors.PlanError.TheVariants as plans
 use Rattle.aig_answers.specs.declared.plans.errors.Why.{Why}
@@ -35,23 +27,7 @@ is_misfit refutation.Unnamed = true
 is_misfit refutation.Unfinished = true
 is_misfit e = false
 
--- so of a proof about a step or a window
-abbrev pub misfits_answer : AnswerError → Bool
-misfits_answer (answers.Refutation e) = is_misfit e
-misfits_answer e = false
-
--- of one about the steps up to one
-abbrev pub misfits_bounded : BoundedAnswerError → Bool
-misfits_bounded (bounded.Refutation e) = is_misfit e
-misfits_bounded e = false
-
--- of those that a machine is safe
-abbrev pub misfits_safety : SafetyError → Bool
-misfits_safety (safety.File e) = misfits_answer e
-misfits_safety (safety.Base e) = misfits_bounded e
-misfits_safety (safety.Step e) = misfits_answer e
-
--- of one of a plan
+-- so of one of a plan
 abbrev pub misfits_why : Why → Bool
 misfits_why (whys.Refutation e) = is_misfit e
 misfits_why e = false
@@ -61,11 +37,10 @@ abbrev pub misfits_plan : PlanError → Bool
 misfits_plan (plans.Refused e) = misfits_why e.why
 misfits_plan e = false
 
--- and of those about two files
-abbrev pub misfits_certificate : CertificateError → Bool
-misfits_certificate (certificate.Pair e) = false
-misfits_certificate (certificate.Query e) = misfits_answer e
-misfits_certificate (certificate.Window e) = misfits_answer e
+-- of those of a goal
+abbrev pub misfits_fault : GoalFault → Bool
+misfits_fault (goal_faults.Plan e) = misfits_plan e
+misfits_fault e = false
 
 -- and of one for a condition of a witness circuit
 abbrev pub misfits_condition : ConditionError → Bool
@@ -74,10 +49,7 @@ misfits_condition (conditions.Refutation e) = is_misfit e
 
 -- the program refuses a proof that doesn't fit the clauses
 abbrev pub has_misfit : Ending CheckError → Bool
-has_misfit (endings.Refused (errors.Goal e)) = misfits_plan e.error
-has_misfit (endings.Refused (errors.Certificate e)) = misfits_certificate e
-has_misfit (endings.Refused (errors.Equality (equality.Miter e))) = misfits_safety e
-has_misfit (endings.Refused (errors.Miter (miter.Certificate e))) = misfits_certificate e
+has_misfit (endings.Refused (errors.Goal e)) = misfits_fault e.fault
 has_misfit (endings.Refused (errors.Simulation (simulation.Condition condition e))) =
     misfits_condition e
 has_misfit ending = false

@@ -1,24 +1,16 @@
 -- Part of what is promised.
 -- What the commands of bounded checks put into their writer. (Bounded model checking; DIMACS CNF
 -- format.)
-use Rattle.std.specs.Prelude.{◌≡◌, ℕ, ◌+◌, ◌≤◌, Bool, true, false, List, ◌++◌, length, Option, Some, codes}
+use Rattle.std.specs.Prelude.{◌≡◌, ℕ, ◌+◌, ◌≤◌, Bool, true, false, List, length, Option, codes}
 use Rattle.std.specs.List.{flat_map, zip}
 use Rattle.aig_base.specs.Clauses.{lit_to}
-use Rattle.aig_base.specs.Formula.{clauses_in}
 use Rattle.aig_answers.specs.declared.bounded_checks.clauses.BoundedClauses.{BoundedClauses}
 use Rattle.aig_answers.specs.declared.bounded_checks.naming.Named.{Named}
-use Rattle.aig_answers.specs.Asking.{AsksBounded}
 use Rattle.aig_answers.specs.Said.{SaysWitness}
-use Rattle.aig_dimacs.specs.Reading.{parse_formula}
-use Rattle.aig_dimacs.specs.Text.{dimacs_of}
 use Rattle.aig_format.specs.File.{File}
-use Rattle.aig_check_commands.specs.Sums.{IsSum}
-use Rattle.aig_check_commands.specs.Titles.{title_text}
-use Rattle.aig_check_commands.specs.declared.titles.title.Question.TheVariants as questions
 use Rattle.aig_witness.specs.Machine.{ShowsBad}
 use Rattle.aig_witness.specs.Witness.{Witness, witness_text}
 use Rattle.aig_check_commands.specs.Comments.{literal_line}
-use Rattle.aig_check_commands.specs.Titling.{title_of}
 
 -- ---- questions
 
@@ -36,22 +28,6 @@ place_line (n, place) =
 unfoldable pub bounded_comments : BoundedClauses → List ℕ
 bounded_comments made =
     flat_map place_line (zip made.question.circuit.inputs.items made.named.items)
-
--- The text of a question of the file of these bytes: its title, with their sum, the lines of its
--- inputs, and then its clauses; from it a plain reader reads just these again. It is the same where
--- no solver is needed: the clauses then say that the constant node is false, and that it is true.
-pub record IsBoundedText (bytes : Option (List ℕ)) (f : File) (k : ℕ) (optimize : Bool)
-    (text : List ℕ) : Type 0 where
-  pub sum : List ℕ
-  pub sums : IsSum bytes sum
-  pub made : BoundedClauses
-  pub asks : AsksBounded f k optimize made
-  pub exact : text
-      ≡ title_text (title_of (questions.Bounded k) optimize sum)
-      ++ bounded_comments made
-      ++ dimacs_of (length made.clauses) (clauses_in made.clauses ++ made.extra)
-  pub again : parse_formula text
-      ≡ Some (length made.clauses, clauses_in made.clauses ++ made.extra)
 
 -- ---- witnesses
 

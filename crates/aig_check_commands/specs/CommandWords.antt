@@ -1,8 +1,10 @@
 -- Part of what is promised.
 -- Which words give which command.
-use Rattle.std.specs.Prelude.{◌≡◌, ◌⊎◌, ◌==◌, ◌++◌, ◌∷◌, [], ℕ, Bool, true, false, not, IsTrue, List, None, Option, Some, codes}
+use Rattle.std.specs.Prelude.{◌≡◌, ◌⊎◌, ◌==◌, ◌+◌, ◌++◌, if◌then◌else◌, option_map, ◌∷◌, [], ℕ, Bool, true, false, not, IsTrue, List, None, Option, Some, codes}
 use Rattle.aig_runs.specs.declared.window.Window.{Window}
 use Rattle.aig_runs.specs.declared.window.Window.TheVariants.{Plain, Distinct}
+use Rattle.aig_answers.specs.Plans.{asked_with}
+use Rattle.aig_answers.specs.declared.plans.asking.Ask.TheVariants as asks
 use Rattle.aig_command_line.specs.declared.arguments.ArgumentForm.{ArgumentForm}
 use Rattle.aig_command_line.specs.declared.arguments.Step.{Step}
 use Rattle.aig_command_line.specs.declared.arguments.Step.TheVariants.{Absent, At, UpTo, By, Each}
@@ -24,9 +26,12 @@ use Rattle.aig_check_commands.specs.declared.command.Command.{Command}
 use Rattle.aig_check_commands.specs.declared.command.Command.TheVariants as commands
 use Rattle.aig_check_commands.specs.declared.command.FileCommand.TheVariants as on_file
 use Rattle.aig_check_commands.specs.declared.command.PairCommand.TheVariants as on_pair
-use Rattle.aig_check_commands.specs.declared.goals.Goal.{Goal}
-use Rattle.aig_check_commands.specs.declared.goals.Goal.TheVariants as goals
-use Rattle.aig_check_commands.specs.Goals.{last_step, proof_count}
+use Rattle.aig_answers.specs.Goals.{goal_of, last_step, proof_count}
+use Rattle.aig_answers.specs.declared.goals.goal.Goal.{Goal}
+use Rattle.aig_answers.specs.declared.goals.goal.Goal.TheVariants as goals
+use Rattle.aig_subjects.specs.declared.subject.FileSubject.TheVariants.{Own}
+use Rattle.aig_subjects.specs.declared.subject.Subject.{Subject}
+use Rattle.aig_subjects.specs.declared.subject.Subject.TheVariants as subjects
 use Rattle.aig_check_commands.specs.Justice.{AreJustice, is_asked}
 use Rattle.aig_simulation.specs.Names.{condition_name}
 use Rattle.aig_simulation.specs.declared.condition.Condition.{Condition}
@@ -88,34 +93,44 @@ window_of true = Distinct
 window_of false = Plain
 
 -- the command that checks proofs of a goal, with one setting for all of them
-abbrev pub check_of : Goal → Bool → Command
-check_of goal optimize = commands.Check goal optimize optimize
+abbrev pub check_of : Subject → Goal → Bool → Command
+check_of subject goal optimize = commands.Check subject goal optimize optimize
+
+-- FILE's own circuit
+abbrev pub own_file : Subject
+own_file = subjects.File Own
+
+-- a certificate is shown by step 0 and a plain window of two steps
+abbrev pub certificate_goal : Goal
+certificate_goal = goals.SafeBySteps 0 Plain
 
 -- the command, with K and the settings
 abbrev pub command_of : Action → ℕ → Bool → Bool → Command
-command_of actions.Clauses k distinct optimize = commands.File (on_file.Clauses k optimize)
+command_of actions.Clauses k distinct optimize = commands.Print (asked_with optimize (asks.Step k))
 command_of actions.Window k distinct optimize =
-    commands.File (on_file.Window k (window_of distinct) optimize)
-command_of actions.Refuted k distinct optimize = check_of (goals.Refuted k) optimize
+    commands.Print (asked_with optimize (asks.Window k (window_of distinct)))
+command_of actions.Refuted k distinct optimize = check_of own_file (goals.Refuted k) optimize
 command_of actions.Inductive k distinct optimize =
-    check_of (goals.Inductive k (window_of distinct)) optimize
+    check_of own_file (goals.Inductive k (window_of distinct)) optimize
 command_of actions.Witness k distinct optimize = commands.File (on_file.Witness k optimize)
 command_of actions.Run k distinct optimize = commands.File on_file.Run
-command_of actions.Certified k distinct optimize = commands.Pair (on_pair.Certified optimize)
+command_of actions.Certified k distinct optimize =
+    check_of (subjects.Certified Own) certificate_goal optimize
 command_of (actions.Equal starts) k distinct optimize =
-    commands.Pair (on_pair.Equal (of_both starts) k optimize)
+    check_of (subjects.Miter (of_both starts)) (goals.Refuted k) optimize
 command_of actions.Obligations k distinct optimize = commands.Pair (on_pair.Obligations optimize)
-command_of actions.Bounded k distinct optimize = commands.File (on_file.Bounded k optimize)
-command_of actions.RefutedTo k distinct optimize = check_of (goals.RefutedTo k) optimize
+command_of actions.Bounded k distinct optimize =
+    commands.Print (asked_with optimize (asks.UpTo k))
+command_of actions.RefutedTo k distinct optimize = check_of own_file (goals.RefutedTo k) optimize
 command_of actions.WitnessTo k distinct optimize = commands.File (on_file.WitnessTo k optimize)
 command_of actions.Safe k distinct optimize =
-    check_of (goals.Safe k (window_of distinct)) optimize
+    check_of own_file (goals.Safe k (window_of distinct)) optimize
 command_of (actions.AlwaysEqual starts) k distinct optimize =
-    commands.Pair (on_pair.AlwaysEqual (of_both starts) k (window_of distinct) optimize optimize)
+    check_of (subjects.Miter (of_both starts)) (goals.Safe k (window_of distinct)) optimize
 command_of (actions.EqualBy starts) k distinct optimize =
-    commands.EqualBy (of_both starts) optimize
+    check_of (subjects.MiterCertified (of_both starts)) certificate_goal optimize
 command_of actions.SafeBySteps k distinct optimize =
-    check_of (goals.SafeBySteps k (window_of distinct)) optimize
+    check_of own_file (goals.SafeBySteps k (window_of distinct)) optimize
 
 -- the word of raw clauses of BASE alone, or of P0 to PK, where those of STEP are optimised, or of
 -- STEP alone
@@ -123,14 +138,19 @@ abbrev pub raw_word : Bool → List ℕ
 raw_word true = codes "raw-base"
 raw_word false = codes "raw-step"
 
+-- proofs of steps and of a window may have different settings, but not those of a certificate
+abbrev pub has_two_settings : Subject → Goal → Bool
+has_two_settings (subjects.File own) (goals.Safe k form) = true
+has_two_settings (subjects.File own) (goals.SafeBySteps k form) = true
+has_two_settings (subjects.Miter comparison) (goals.Safe k form) = true
+has_two_settings (subjects.Miter comparison) (goals.SafeBySteps k form) = true
+has_two_settings subject goal = false
+
 -- the command, where the clauses of STEP alone are optimised, or those of BASE alone
 abbrev pub raw_alone : Bool → Command → Option Command
-raw_alone step (commands.Check (goals.Safe k form) base_optimize step_optimize) =
-    Some (commands.Check (goals.Safe k form) (not step) step)
-raw_alone step (commands.Check (goals.SafeBySteps k form) base_optimize step_optimize) =
-    Some (commands.Check (goals.SafeBySteps k form) (not step) step)
-raw_alone step (commands.Pair (on_pair.AlwaysEqual comparison k form base_optimize step_optimize)) =
-    Some (commands.Pair (on_pair.AlwaysEqual comparison k form (not step) step))
+raw_alone step (commands.Check subject goal base_optimize step_optimize) =
+    if has_two_settings subject goal then Some (commands.Check subject goal (not step) step)
+    else None
 raw_alone step c = None
 
 -- the words fit the command, with one setting for all its proofs
@@ -187,20 +207,19 @@ AreCommand words c a =
     ⊎ (FitNone (IsWhole words)
     × (IsAlone words c a ⊎ (FitNone (IsAlone words) × IsOnWitness words c a)))
 
--- the comparison with constraints that say this
-abbrev pub compared_under : Constraints → Comparison → Comparison
-compared_under constraints comparison = record comparison { constraints = constraints }
+-- the files that are compared, with constraints that say this
+abbrev pub compared_under : Constraints → Subject → Option Subject
+compared_under constraints (subjects.Miter comparison) =
+    Some (subjects.Miter (record comparison { constraints = constraints }))
+compared_under constraints (subjects.MiterCertified comparison) =
+    Some (subjects.MiterCertified (record comparison { constraints = constraints }))
+compared_under constraints subject = None
 
 -- the command that compares, with constraints that say this
 abbrev pub constrained : Constraints → Command → Option Command
-constrained constraints (commands.Pair (on_pair.Equal comparison k optimize)) =
-    Some (commands.Pair (on_pair.Equal (compared_under constraints comparison) k optimize))
-constrained constraints
-    (commands.Pair (on_pair.AlwaysEqual comparison k form base_optimize step_optimize)) =
-    Some (commands.Pair (on_pair.AlwaysEqual (compared_under constraints comparison) k form
-    base_optimize step_optimize))
-constrained constraints (commands.EqualBy comparison optimize) =
-    Some (commands.EqualBy (compared_under constraints comparison) optimize)
+constrained constraints (commands.Check subject goal base_optimize step_optimize) =
+    option_map (λ s. commands.Check s goal base_optimize step_optimize)
+    (compared_under constraints subject)
 constrained constraints c = None
 
 -- the command with constraints that say this: only one that compares has others than the usual ones
@@ -237,35 +256,33 @@ Give words c = (limit : ℕ) × (paths : List (List ℕ)) × (further : List (Li
 
 -- the step that it names, and 0 where it names none
 abbrev pub step_of : Command → ℕ
-step_of (commands.File (on_file.Clauses k optimize)) = k
-step_of (commands.File (on_file.Window k form optimize)) = k
 step_of (commands.File (on_file.Witness k optimize)) = k
-step_of (commands.File (on_file.Bounded k optimize)) = k
 step_of (commands.File (on_file.WitnessTo k optimize)) = k
-step_of (commands.Pair (on_pair.Equal comparison k optimize)) = k
-step_of (commands.Pair (on_pair.AlwaysEqual comparison k form base_optimize step_optimize)) = k
-step_of (commands.Check goal base_optimize step_optimize) = last_step goal
+step_of (commands.Print q) = last_step (goal_of q.ask)
+step_of (commands.Check subject goal base_optimize step_optimize) = last_step goal
 step_of c = 0
+
+-- how many files what is asked about has, but for CERT of a miter
+abbrev pub path_count : Subject → ℕ
+path_count (subjects.File own) = 1
+path_count subject = 2
 
 -- on how many files it is
 abbrev pub paths_of : Command → ℕ
 paths_of (commands.File c) = 1
+paths_of (commands.Print q) = 1
 paths_of (commands.Pair c) = 2
-paths_of (commands.Check goal base_optimize step_optimize) = 1
-paths_of (commands.EqualBy comparison optimize) = 2
+paths_of (commands.Check subject goal base_optimize step_optimize) = path_count subject
 paths_of (commands.Simulated optimize) = 2
 paths_of (commands.Obligation condition optimize) = 2
 
 -- how many are given beside these
 abbrev pub beside_of : Command → ℕ
-beside_of (commands.File (on_file.Clauses k optimize)) = 0
-beside_of (commands.File (on_file.Window k form optimize)) = 0
-beside_of (commands.File (on_file.Bounded k optimize)) = 0
-beside_of (commands.Pair (on_pair.Certified optimize)) = 2
+beside_of (commands.Print q) = 0
 beside_of (commands.Pair (on_pair.Obligations optimize)) = 0
-beside_of (commands.Pair (on_pair.AlwaysEqual comparison k form base_optimize step_optimize)) = 2
-beside_of (commands.Check goal base_optimize step_optimize) = proof_count goal
-beside_of (commands.EqualBy comparison optimize) = 3
+beside_of (commands.Check (subjects.MiterCertified comparison) goal base_optimize step_optimize) =
+    proof_count goal + 1
+beside_of (commands.Check subject goal base_optimize step_optimize) = proof_count goal
 beside_of (commands.Simulated optimize) = 5
 beside_of (commands.Obligation condition optimize) = 0
 beside_of c = 1

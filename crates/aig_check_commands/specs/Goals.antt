@@ -1,46 +1,22 @@
 -- Part of what is promised.
--- What proofs about FILE are to show: the plan of questions that they answer, the line that is
--- printed, and what that says of FILE. (Bounded model checking; k-induction; AIGER 1.9,
--- "Properties": justice and fairness.)
-use Rattle.std.specs.Prelude.{ℕ, ◌+◌, ◌≤◌, Bool, List, ◌∷◌, [], ◌++◌, Option, Some, None, codes, decimal}
-use Rattle.aig_answers.specs.Plans.{asked_with, plan_each, plan_to}
-use Rattle.aig_answers.specs.declared.plans.asking.Ask.TheVariants as asks
-use Rattle.aig_answers.specs.declared.plans.asking.Question.{Question}
-use Rattle.aig_edit_laws.specs.Fair.{HasFairLasso, HasFairRun}
-use Rattle.aig_format.specs.File.{File}
-use Rattle.aig_runs.specs.Induction.{IsKInductive}
-use Rattle.aig_runs.specs.Queries.{IsSafeTo}
-use Rattle.aig_runs.specs.Safety.{IsSafeAt}
-use Rattle.aig_check_commands.specs.Pairs.{safe_line}
-use Rattle.aig_check_commands.specs.declared.goals.Goal.{Goal}
-use Rattle.aig_check_commands.specs.declared.goals.Goal.TheVariants as goals
-use Rattle.aig_check_commands.specs.declared.justice.Justice.{Justice}
-
--- ---- plans
-
--- the plan: its windows have the second setting, and what else it asks has the first
-abbrev pub plan_of : Goal → Bool → Bool → List Question
-plan_of (goals.Refuted k) base step = asked_with base (asks.Step k) ∷ []
-plan_of (goals.RefutedTo k) base step = asked_with base (asks.UpTo k) ∷ []
-plan_of (goals.Inductive k form) base step = asked_with step (asks.Window k form) ∷ []
-plan_of (goals.Safe k form) base step = plan_to k form base step
-plan_of (goals.SafeBySteps k form) base step = plan_each k form base step
-
--- how many proofs there are: one for each question
-abbrev pub proof_count : Goal → ℕ
-proof_count (goals.Safe k form) = 2
-proof_count (goals.SafeBySteps k form) = k + 2
-proof_count goal = 1
-
--- the step that it names
-abbrev pub last_step : Goal → ℕ
-last_step (goals.Refuted k) = k
-last_step (goals.RefutedTo k) = k
-last_step (goals.Inductive k form) = k
-last_step (goals.Safe k form) = k
-last_step (goals.SafeBySteps k form) = k
+-- The line that is printed where proofs show a goal of a subject, and which goals are asked of
+-- which subject.
+use Rattle.std.specs.Prelude.{ℕ, ◌+◌, Bool, true, false, List, ◌∷◌, [], ◌++◌, codes, decimal}
+use Rattle.aig_answers.specs.Goals.{last_step}
+use Rattle.aig_answers.specs.declared.goals.goal.Goal.{Goal}
+use Rattle.aig_answers.specs.declared.goals.goal.Goal.TheVariants as goals
+use Rattle.aig_join.specs.declared.comparison.Comparison.{Comparison}
+use Rattle.aig_subjects.specs.declared.subject.FileSubject.{FileSubject}
+use Rattle.aig_subjects.specs.declared.subject.FileSubject.TheVariants.{Live, Own, Rounds}
+use Rattle.aig_subjects.specs.declared.subject.Subject.{Subject}
+use Rattle.aig_subjects.specs.declared.subject.Subject.TheVariants as subjects
+use Rattle.aig_check_commands.specs.EqualLines.{always_line, equal_line}
 
 -- ---- lines
+
+-- the line of a machine that is safe
+abbrev pub safe_line : List ℕ
+safe_line = codes "no bad state at any step" ++ 10 ∷ []
 
 -- the line of a step at which no bad state is reached
 abbrev pub step_line : ℕ → List ℕ
@@ -87,25 +63,36 @@ fair_line (goals.Safe k form) property = no_run_line property
 fair_line (goals.SafeBySteps k form) property = no_run_line property
 fair_line goal property = lassos_line goal property
 
+-- the line about FILE
+abbrev pub file_line : FileSubject → Goal → List ℕ
+file_line Own goal = safety_line goal
+file_line (Live property) goal = fair_line goal property
+file_line (Rounds property rounds) goal = fair_line goal property
+
+-- the line about two files
+abbrev pub pair_line : Comparison → Goal → List ℕ
+pair_line comparison (goals.Refuted k) = equal_line comparison k
+pair_line comparison goal = always_line comparison
+
 -- the line that is printed
-abbrev pub line_of : Option Justice → Goal → List ℕ
-line_of None goal = safety_line goal
-line_of (Some a) goal = fair_line goal a.property
+abbrev pub line_of : Subject → Goal → List ℕ
+line_of (subjects.File own) goal = file_line own goal
+line_of (subjects.Miter comparison) goal = pair_line comparison goal
+line_of (subjects.Certified own) goal = file_line own goal
+line_of (subjects.MiterCertified comparison) goal = pair_line comparison goal
 
--- ---- what they say of FILE
+-- ---- what is asked
 
--- it has no fair lasso of at most k + 1 steps
-abbrev pub HasNoLassoTo : File → ℕ → ℕ → Type 0
-HasNoLassoTo f property k = (n : ℕ) → n ≤ k → ¬ HasFairLasso f property n
-
--- what the line says of FILE: of its bad states, or of the lassos or the runs of a justice property
-abbrev pub Shows : Option Justice → Goal → File → Type 0
-Shows None (goals.Refuted k) f = IsSafeAt f k
-Shows None (goals.RefutedTo k) f = IsSafeTo f k
-Shows None (goals.Inductive k form) f =
-    IsKInductive form f k × (IsSafeTo f k → (n : ℕ) → IsSafeTo f n)
-Shows None goal f = (n : ℕ) → IsSafeTo f n
-Shows (Some a) (goals.Refuted k) f = ¬ HasFairLasso f a.property k
-Shows (Some a) (goals.RefutedTo k) f = HasNoLassoTo f a.property k
-Shows (Some a) (goals.Inductive k form) f = HasNoLassoTo f a.property k → ¬ HasFairRun f a.property
-Shows (Some a) goal f = ¬ HasFairRun f a.property
+-- It is asked of the subject: of FILE's own circuit everything, of its live one all but proofs of
+-- each step, of rounds whether there is a fair run, of a miter a step or all at once, and of a
+-- certificate all by steps.
+abbrev pub is_asked_of : Subject → Goal → Bool
+is_asked_of (subjects.File Own) goal = true
+is_asked_of (subjects.File (Live property)) (goals.SafeBySteps k form) = false
+is_asked_of (subjects.File (Live property)) goal = true
+is_asked_of (subjects.File (Rounds property rounds)) (goals.Safe k form) = true
+is_asked_of (subjects.Miter comparison) (goals.Refuted k) = true
+is_asked_of (subjects.Miter comparison) (goals.Safe k form) = true
+is_asked_of (subjects.Certified own) (goals.SafeBySteps k form) = true
+is_asked_of (subjects.MiterCertified comparison) (goals.SafeBySteps k form) = true
+is_asked_of subject goal = false

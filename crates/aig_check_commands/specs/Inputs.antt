@@ -1,50 +1,31 @@
 -- Part of what is promised.
 -- What a command does with the list of the files that it reads: FILE, CERT, OTHER or a witness
 -- circuit, and what is given beside these.
-use Rattle.std.specs.Prelude.{ℕ, Bool, List, [], ◌∷◌, None, Option, Result}
+use Rattle.std.specs.Prelude.{ℕ, Bool, List, [], ◌∷◌, Option, Result}
 use Rattle.aig_check_commands.specs.declared.command.Command.{Command}
 use Rattle.aig_check_commands.specs.declared.command.Command.TheVariants as commands
 use Rattle.aig_check_commands.specs.declared.error.CheckError.{CheckError}
-use Rattle.aig_check_commands.specs.Checked.{RunsGoal}
-use Rattle.aig_check_commands.specs.Comparing.{RunsComparing}
 use Rattle.aig_check_commands.specs.Pairs.{RunsPair}
+use Rattle.aig_check_commands.specs.Questions.{RunsQuestion}
+use Rattle.aig_subjects.specs.declared.subject.FileSubject.TheVariants.{Own}
 use Rattle.aig_check_commands.specs.Running.{Runs, nothing_fails, nothing_given}
 use Rattle.aig_check_commands.specs.Simulating.{RunsObligation, RunsSimulated}
 use Rattle.aig_simulated.specs.Simulated.{proofs_of}
 
--- The command was run on FILE and on the files behind it: r, inputs and w are these and the writer
--- before it; rest, others and made are they after it.
+-- A command that isn't a check of a goal was run on FILE and on the files behind it: r, inputs and
+-- w are these and the writer before it; rest, others and made are they after it.
 abbrev pub Ran : {R S W : Type 0} → (R → Option (List ℕ)) → (R → Bool) → (S → Option (List ℕ))
     → (S → Bool) → (W → Option (List ℕ)) → (W → Bool) → ℕ → Command → R → List S → W
     → Result Unit CheckError → R → List S → W → Type 0
-Ran left failed left_of failed_of held write_failed limit (commands.File c) r [] w result rest []
-    made =
-    Runs left failed nothing_given nothing_fails held write_failed c limit r tt w result rest tt
-    made
 Ran left failed left_of failed_of held write_failed limit (commands.File c) r (p ∷ []) w result rest
     (used ∷ []) made =
     Runs left failed left_of failed_of held write_failed c limit r p w result rest used made
+Ran left failed left_of failed_of held write_failed limit (commands.Print q) r files w result rest
+    others made =
+    RunsQuestion left failed held write_failed limit Own q r w result rest made
 Ran left failed left_of failed_of held write_failed limit (commands.Pair c) r (s ∷ []) w result rest
     (other ∷ []) made =
-    RunsPair left failed left_of failed_of nothing_given nothing_fails nothing_given nothing_fails
-    held write_failed c limit r s tt tt w result rest other tt tt made
-Ran left failed left_of failed_of held write_failed limit (commands.Pair c) r (s ∷ p ∷ []) w result
-    rest (other ∷ used ∷ []) made =
-    RunsPair left failed left_of failed_of left_of failed_of nothing_given nothing_fails held
-    write_failed c limit r s p tt w result rest other used tt made
-Ran left failed left_of failed_of held write_failed limit (commands.Pair c) r (s ∷ p ∷ q ∷ []) w
-    result rest (other ∷ used ∷ spent ∷ []) made =
-    RunsPair left failed left_of failed_of left_of failed_of left_of failed_of held write_failed c
-    limit r s p q w result rest other used spent made
-Ran left failed left_of failed_of held write_failed limit
-    (commands.Check goal base_optimize step_optimize) r proofs w result rest others made =
-    RunsGoal left failed left_of failed_of held write_failed limit None goal base_optimize
-    step_optimize r proofs w result rest others made
-Ran left failed left_of failed_of held write_failed limit (commands.EqualBy comparison optimize) r
-    (s ∷ c ∷ p ∷ q ∷ []) w result rest (other ∷ tried ∷ used ∷ spent ∷ []) made =
-    RunsComparing left failed left_of failed_of left_of failed_of left_of failed_of left_of
-    failed_of held write_failed comparison optimize limit r s c p q w result rest other tried used
-    spent made
+    RunsPair left failed left_of failed_of held write_failed c limit r s w result rest other made
 Ran left failed left_of failed_of held write_failed limit (commands.Simulated optimize) r
     (s ∷ reset ∷ transition ∷ property ∷ base ∷ step ∷ []) w result rest
     (other ∷ reset_rest ∷ transition_rest ∷ property_rest ∷ base_rest ∷ step_rest ∷ []) made =

@@ -1,14 +1,16 @@
 -- Part of what is promised.
 -- Commands that ask about a justice property of a file, and the words that give the property.
 -- (AIGER 1.9, "Properties": justice and fairness.)
-use Rattle.std.specs.Prelude.{◌≡◌, ℕ, Bool, true, false, List, ◌∷◌, Option, Some, None, codes, is_none}
+use Rattle.std.specs.Prelude.{◌≡◌, ℕ, Bool, true, false, List, ◌∷◌, Option, Some, None, codes, is_none, not, ◌&&◌, ◌||◌}
 use Rattle.aig_format.specs.Text.{IsNumber}
+use Rattle.aig_subjects.specs.declared.subject.FileSubject.{FileSubject}
+use Rattle.aig_subjects.specs.declared.subject.FileSubject.TheVariants.{Live, Own, Rounds}
+use Rattle.aig_subjects.specs.declared.subject.Subject.{Subject}
+use Rattle.aig_subjects.specs.declared.subject.Subject.TheVariants as subjects
+use Rattle.aig_check_commands.specs.Goals.{is_asked_of}
 use Rattle.aig_check_commands.specs.declared.command.Command.{Command}
 use Rattle.aig_check_commands.specs.declared.command.Command.TheVariants as commands
-use Rattle.aig_check_commands.specs.declared.command.FileCommand.TheVariants as on_file
 use Rattle.aig_check_commands.specs.declared.command.PairCommand.TheVariants as on_pair
-use Rattle.aig_check_commands.specs.declared.goals.Goal.{Goal}
-use Rattle.aig_check_commands.specs.declared.goals.Goal.TheVariants as goals
 use Rattle.aig_check_commands.specs.declared.justice.Justice.{Justice}
 
 -- ---- words
@@ -30,27 +32,39 @@ AreJustice None words rest = IsNumbered (codes "--justice") None words rest
 
 -- ---- commands
 
--- proofs of the goal are asked of a justice property: one proof alone, of its fair lassos, and not
--- those of each step
-abbrev pub is_asked_of : Goal → Justice → Bool
-is_asked_of (goals.Safe k form) a = true
-is_asked_of (goals.SafeBySteps k form) a = false
-is_asked_of goal a = is_none a.rounds
+-- the circuit that is made of FILE for it: the live one, or the one that counts so many of its
+-- rounds
+abbrev pub made_for : Justice → FileSubject
+made_for a = by_rounds a.rounds
+  where
+    by_rounds : Option ℕ → FileSubject
+    by_rounds None = Live a.property
+    by_rounds (Some rounds) = Rounds a.property rounds
 
--- they are asked of it where one is given
-abbrev pub is_asked_by : Goal → Option Justice → Bool
-is_asked_by goal None = true
-is_asked_by goal (Some a) = is_asked_of goal a
+-- the circuit of FILE that is asked about
+abbrev pub file_subject : Option Justice → FileSubject
+file_subject None = Own
+file_subject (Some a) = made_for a
 
--- the command is asked of a justice property, where one is given
+-- what is asked about, where a justice property of FILE may be
+abbrev pub subject_of : Option Justice → Subject → Subject
+subject_of (Some a) (subjects.File own) = subjects.File (made_for a)
+subject_of (Some a) (subjects.Certified own) = subjects.Certified (made_for a)
+subject_of a subject = subject
+
+-- files aren't compared by a justice property
+abbrev pub compares_files : Subject → Bool
+compares_files (subjects.Miter comparison) = true
+compares_files (subjects.MiterCertified comparison) = true
+compares_files subject = false
+
+-- the command is asked, of a justice property where one is given
 abbrev pub is_asked : Option Justice → Command → Bool
+is_asked a (commands.Check subject goal base step) =
+    (is_none a || not (compares_files subject)) && is_asked_of (subject_of a subject) goal
 is_asked None c = true
-is_asked (Some a) (commands.File (on_file.Clauses k optimize)) = true
-is_asked (Some a) (commands.File (on_file.Window k form optimize)) = true
-is_asked (Some a) (commands.File (on_file.Bounded k optimize)) = true
-is_asked (Some a) (commands.Pair (on_pair.Certified optimize)) = true
+is_asked (Some a) (commands.Print q) = true
 is_asked (Some a) (commands.Pair (on_pair.Obligations optimize)) = true
-is_asked (Some a) (commands.Check goal base_optimize step_optimize) = is_asked_of goal a
 is_asked (Some a) (commands.Simulated optimize) = true
 is_asked (Some a) (commands.Obligation condition optimize) = true
 is_asked (Some a) c = false

@@ -5,12 +5,12 @@ pub mod Comments
 pub mod Titling
 pub mod Printed
 pub mod Running
+pub mod EqualLines
 pub mod Goals
 pub mod Made
 pub mod Checked
-pub mod CheckedParts
 pub mod Pairs
-pub mod Comparing
+pub mod Questions
 pub mod Printing
 pub mod Fits
 pub mod Inputs

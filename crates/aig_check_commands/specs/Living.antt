@@ -18,9 +18,8 @@ use Rattle.aig_check_commands.specs.declared.error.CheckError.{CheckError}
 use Rattle.aig_check_commands.specs.declared.error.CheckError.TheVariants as errors
 use Rattle.aig_check_commands.specs.Inputs.{Ran, Stream, bytes_of, has_failed}
 use Rattle.aig_check_commands.specs.CommandWords.{prints}
-use Rattle.aig_check_commands.specs.Checked.{IsMadeOwn, made_verdict}
 use Rattle.aig_check_commands.specs.Goals.{no_run_line}
-use Rattle.aig_check_commands.specs.Made.{IsMadeOf, IsUnmade}
+use Rattle.aig_check_commands.specs.Made.{IsMadeOf, IsMadeOwn, IsUnmade, made_verdict}
 
 -- ---- the file that is made
 
@@ -62,9 +61,10 @@ Concludes held write_failed line Shown Checks w made (Err e) = Checks (Err e) ×
 
 -- ---- on the text of what is made
 
--- the command is on the text: it checks a certificate, or a witness circuit, or prints clauses
+-- the command is on the text: it is on a certificate, or on a witness circuit
 abbrev pub IsOnText : Command → Type 0
-IsOnText (commands.Check goal base step) = ⊥
+IsOnText (commands.Check subject goal base step) = ⊥
+IsOnText (commands.Print q) = ⊥
 IsOnText c = Unit {0}
 
 -- the writer that keeps nothing holds nothing that is known, and never fails

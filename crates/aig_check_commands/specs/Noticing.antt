@@ -9,11 +9,11 @@ use Rattle.aig_command_line.specs.declared.status.Ending.{Ending}
 use Rattle.aig_command_line.specs.declared.status.Ending.TheVariants.{Done}
 use Rattle.aig_join.specs.declared.comparison.Constraints.{Constraints}
 use Rattle.aig_join.specs.declared.comparison.Constraints.TheVariants.{OfBoth}
+use Rattle.aig_subjects.specs.declared.subject.Subject.TheVariants as subjects
 use Rattle.aig_check_commands.specs.declared.command.Asked.{Asked}
 use Rattle.aig_check_commands.specs.declared.command.Command.{Command}
 use Rattle.aig_check_commands.specs.declared.command.Command.TheVariants as commands
 use Rattle.aig_check_commands.specs.declared.command.FileCommand.TheVariants as on_file
-use Rattle.aig_check_commands.specs.declared.command.PairCommand.TheVariants as on_pair
 use Rattle.aig_check_commands.specs.declared.justice.Justice.{Justice}
 use Rattle.aig_check_commands.specs.declared.error.CheckError.{CheckError}
 use Rattle.aig_check_commands.specs.CommandWords.{IsCall}
@@ -32,10 +32,10 @@ is_within constraints = false
 
 -- `equal` compares files on runs that constraints allow
 abbrev pub compares : Command → Bool
-compares (commands.Pair (on_pair.Equal comparison k optimize)) = is_within comparison.constraints
-compares (commands.Pair (on_pair.AlwaysEqual comparison k form base_optimize step_optimize)) =
+compares (commands.Check (subjects.Miter comparison) goal base step) =
     is_within comparison.constraints
-compares (commands.EqualBy comparison optimize) = is_within comparison.constraints
+compares (commands.Check (subjects.MiterCertified comparison) goal base step) =
+    is_within comparison.constraints
 compares c = false
 
 -- what is done with parts of its files that its answer is not about

@@ -1,6 +1,6 @@
 -- Serves private clauses alone.
 -- What is printed of what was read: a text, or a beginning of it.
-use Rattle.std.specs.Prelude.{◌≡◌, ℕ, ◌+◌, Bool, List, [], ◌++◌, length, replicate, Option, Result, Ok, Err, codes}
+use Rattle.std.specs.Prelude.{◌≡◌, ◌⊎◌, ℕ, ◌+◌, Bool, List, [], ◌++◌, length, replicate, Option, Result, Ok, Err, codes}
 use Rattle.aig_answers.specs.declared.windows.WindowClauses.{WindowClauses}
 use Rattle.aig_base.specs.Formula.{clauses_in}
 use Rattle.aig_base.specs.declared.logic.literal.Lit.{Lit}
@@ -11,23 +11,26 @@ use Rattle.aig_cnf.specs.Cnf.{HasClauses}
 use Rattle.aig_dimacs.specs.Text.{IsFormula, dimacs_of}
 use Rattle.aig_encode.specs.declared.encoding.Encoded.{Encoded}
 use Rattle.aig_output.specs.Sinks.{WritesOrStops}
-use Rattle.aig_runs.specs.Queries.{query_clauses}
-use Rattle.aig_runs.specs.Unrolled.{UnrolledCircuit}
 use Rattle.aig_witness.specs.Checked.{RefusesSolution, SaysWitness}
 use Rattle.aig_check_commands.specs.Titles.{title_text}
 use Rattle.aig_check_commands.specs.declared.titles.title.Title.{Title}
 use Rattle.aig_witness.specs.Witness.{Witness, witness_text}
 use Rattle.aig_witness.specs.Shown.{IsKnownWitness}
-use Rattle.aig_check_commands.specs.Comments.{comments_of}
 use Rattle.aig_check_commands.specs.Pairs.{part_text}
+use Rattle.aig_answers.specs.Plans.{HasNone}
+use Rattle.aig_answers.specs.declared.plans.asking.Question.{Question}
+use Rattle.aig_answers.specs.declared.plans.errors.PlanError.TheVariants as plans
+use Rattle.aig_answers.specs.declared.plans.errors.Why.TheVariants as whys
+use Rattle.aig_bounded.specs.declared.error.BoundedError.{BoundedError}
+use Rattle.aig_circuit.specs.declared.view.CircuitLists.{CircuitLists}
+use Rattle.aig_edits.specs.declared.edit_error.EditError.{EditError}
+use Rattle.aig_format.specs.File.{File}
+use Rattle.aig_subjects.specs.Subjects.{IsFileSubject, IsUnmadeFile}
+use Rattle.aig_subjects.specs.declared.subject.FileSubject.{FileSubject}
+use Rattle.aig_check_commands.specs.Questions.{IsQuestionText, question_error, summed_text}
+use Rattle.aig_check_commands.specs.Sums.{IsSum}
 use Rattle.aig_check_commands.specs.declared.error.CheckError.{CheckError}
 use Rattle.aig_check_commands.specs.declared.error.CheckError.TheVariants as errors
-
--- the text of a query: its title, its comments, and then these clauses
-abbrev pub query_text : Title → UnrolledCircuit → List (List (List Lit)) → List (List Lit) → List ℕ
-query_text title u lists extra =
-    title_text title ++ comments_of u.circuit u.unrolled u.steps
-    ++ dimacs_of (length lists) (clauses_in lists ++ extra)
 
 -- a front is written, and then the clauses of a circuit and further ones, or a beginning of that,
 -- and the clauses are a formula
@@ -39,16 +42,6 @@ pub record WritesBehind {W T E : Type 0} (held : W → Option (List ℕ)) (faile
   pub formula : IsFormula (length lists) (clauses_in lists ++ extra)
   pub writes : WritesOrStops held failed old result
       (front ++ dimacs_of (length lists) (clauses_in lists ++ extra)) new
-
--- the text with the clauses that ask for a bad state at the last step
-pub record IsQueryText (title : Title) (u : UnrolledCircuit) (optimize : Bool) (text : List ℕ)
-    : Type 0 where
-  pub lists : List (List (List Lit))
-  pub has : HasClauses u.unrolled optimize lists
-  pub extra : List (List Lit)
-  pub asks : extra ≡ query_clauses u.circuit u.steps u.unrolled
-  pub formula : IsFormula (length lists) (clauses_in lists ++ extra)
-  pub exact : text ≡ query_text title u lists extra
 
 -- the clauses of a circuit and further ones
 abbrev pub clauses_with : List (List (List Lit)) → List (List Lit) → WindowClauses
@@ -123,3 +116,27 @@ IsSolutionOf given failed e k (Ok text) = IsKnownText given e k text
 IsSolutionOf given failed e k (Err (errors.Solution error)) =
     RefusesSolution given e k failed error
 IsSolutionOf given failed e k (Err error) = ⊥
+
+-- ---- questions
+
+-- these are the lists of the circuit that is asked about, with the sum of its text, or it is said
+-- why there are none
+abbrev pub GivesSummed : FileSubject → Option (List ℕ) → File
+    → Result (CircuitLists × List ℕ) EditError → Type 0
+GivesSummed own bytes f (Ok (lists, sum)) =
+    IsFileSubject own f (lists_circuit lists)
+    × IsSum (summed_text own bytes (lists_circuit lists)) sum
+GivesSummed own bytes f (Err e) = IsUnmadeFile own f e
+
+-- the error of a question that has no clauses
+abbrev pub clauses_error : FileSubject → Question → BoundedError → CheckError
+clauses_error own q e =
+    question_error own q (plans.Refused (record { index = 0; why = whys.Clauses e }))
+
+-- the answer is the text of a question for which there is room, or it is said why there is none
+abbrev pub IsTextOfQuestion : ℕ → FileSubject → Question → Circuit → List ℕ
+    → Result (List ℕ) CheckError → Type 0
+IsTextOfQuestion limit own q m sum (Ok text) = IsQuestionText q m sum text
+IsTextOfQuestion limit own q m sum (Err e) =
+    (e ≡ errors.Memory)
+    ⊎ ((x : BoundedError) × (e ≡ clauses_error own q x) × HasNone limit q.ask m x)

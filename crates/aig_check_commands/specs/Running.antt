@@ -1,23 +1,16 @@
 -- Part of what is promised.
 -- What a command does with the bytes of a file and of a proof or a witness: what it puts into its
 -- writer, and why it refuses them.
-use Rattle.std.specs.Prelude.{◌≡◌, ◌≢◌, ℕ, ◌+◌, Bool, false, List, [], ◌∷◌, ◌++◌, length, Option, Some, None, Result, IfErr, IfOk, codes, decimal}
-use Rattle.aig_base.specs.declared.logic.literal.Lit.{Lit}
-use Rattle.aig_base.specs.Formula.{clauses_in}
-use Rattle.aig_dimacs.specs.Reading.{parse_formula}
-use Rattle.aig_dimacs.specs.Text.{dimacs_of}
-use Rattle.aig_format.specs.Circuit.{circuit_of}
+use Rattle.std.specs.Prelude.{◌≡◌, ◌≢◌, ℕ, ◌+◌, Bool, false, List, [], ◌∷◌, ◌++◌, length, Option, None, Result, IfErr, IfOk, codes, decimal}
 use Rattle.aig_format.specs.File.{File}
 use Rattle.aig_format.specs.Fits.{Accepts}
 use Rattle.aig_reader.specs.declared.error.ReadError.TheVariants as read
 use Rattle.aig_reader.specs.Reading.{IsReadAs}
 use Rattle.aig_reader.specs.Verdicts.{Accepted, Judges, Refused, Short, Verdict, verdict_by}
-use Rattle.aig_runs.specs.declared.window.Window.{Window}
-use Rattle.aig_runs.specs.WindowClauses.{AsksWindow}
 use Rattle.aig_encode.specs.declared.query_clauses.Query.{Query}
 use Rattle.aig_encode.specs.Encoding.{IsQuery}
 use Rattle.aig_answers.specs.Answers as asking
-use Rattle.aig_answers.specs.Answers.{IsAsked, IsOfQuery, IsOfWindow, asked_verdict, window_verdict}
+use Rattle.aig_answers.specs.Answers.{IsAsked, IsOfQuery, asked_verdict}
 use Rattle.aig_witness.specs.Witness.{Witness, witness_text}
 use Rattle.aig_witness.specs.declared.file.ShowError.TheVariants as shows
 use Rattle.aig_witness.specs.Machine.{ShowsBad}
@@ -31,21 +24,15 @@ use Rattle.aig_bounded.specs.Question.{question_size}
 use Rattle.aig_answers.specs.declared.bounded_checks.error.BoundedAnswerError.{BoundedAnswerError}
 use Rattle.aig_answers.specs.declared.bounded_checks.error.BoundedAnswerError.TheVariants as bounded
 use Rattle.aig_answers.specs.Asking as bounding
-use Rattle.aig_answers.specs.Asking.{IsAskedWithin, IsOfQuestion, IsOfWitness, bounded_verdict}
+use Rattle.aig_answers.specs.Asking.{IsAskedWithin, IsOfWitness, bounded_verdict}
 use Rattle.aig_answers.specs.Certificates as certificates
-use Rattle.aig_answers.specs.Comparing as comparing
 use Rattle.aig_edits.specs.Edits.{edit_verdict}
-use Rattle.aig_answers.specs.Equality as equality
 use Rattle.aig_simulated.specs.Simulated as simulating
 use Rattle.aig_witness.specs.declared.solutions.error.SolutionError.{SolutionError}
 use Rattle.aig_witness.specs.Checked.{RefusesSolution, SaysWitness}
 use Rattle.aig_check_commands.specs.Printed.{Printed}
-use Rattle.aig_check_commands.specs.Sums.{IsSum}
-use Rattle.aig_check_commands.specs.Titles.{title_text}
-use Rattle.aig_check_commands.specs.declared.titles.title.Question.TheVariants as questions
-use Rattle.aig_check_commands.specs.Bounded.{IsBoundedText, IsWitnessToText}
-use Rattle.aig_check_commands.specs.Comments.{comments_of, named_text}
-use Rattle.aig_check_commands.specs.Titling.{is_distinct, title_of}
+use Rattle.aig_check_commands.specs.Bounded.{IsWitnessToText}
+use Rattle.aig_check_commands.specs.Comments.{named_text}
 use Rattle.aig_check_commands.specs.declared.command.FileCommand.{FileCommand}
 use Rattle.aig_check_commands.specs.declared.command.FileCommand.TheVariants as commands
 use Rattle.aig_check_commands.specs.declared.error.CheckError.{CheckError}
@@ -69,37 +56,6 @@ abbrev pub IsShownLine : Option (List ℕ) → File → List ℕ → Type 0
 IsShownLine given f text =
     (shown : ShownProperty) × ShowsClaim given f shown × (text ≡ shown_line shown)
 
--- the text of the query of the file of these bytes: its title, with their sum, comments that say
--- where inputs, latches and bad literals stand, and then the clauses; from it a plain reader reads
--- just these again
-pub record IsClausesText (bytes : Option (List ℕ)) (f : File) (k : ℕ) (optimize : Bool)
-    (text : List ℕ) : Type 0 where
-  pub sum : List ℕ
-  pub sums : IsSum bytes sum
-  pub query : Query
-  pub asks : IsQuery k optimize f query
-  pub exact : text
-      ≡ title_text (title_of (questions.Clauses k) optimize sum)
-      ++ comments_of query.encoded.circuit query.encoded.unrolled k
-      ++ dimacs_of (length query.encoded.clauses)
-      (clauses_in query.encoded.clauses ++ query.extra)
-  pub again : parse_formula text
-      ≡ Some (length query.encoded.clauses, clauses_in query.encoded.clauses ++ query.extra)
-
--- the text of clauses that ask for a window of the file of these bytes, behind their title; from
--- it a plain reader reads just these again
-pub record IsWindowText (bytes : Option (List ℕ)) (form : Window) (f : File) (k : ℕ)
-    (optimize : Bool) (text : List ℕ) : Type 0 where
-  pub sum : List ℕ
-  pub sums : IsSum bytes sum
-  pub lists : List (List (List Lit))
-  pub extra : List (List Lit)
-  pub asks : AsksWindow form (circuit_of f) k optimize lists extra
-  pub exact : text
-      ≡ title_text (title_of (questions.Window k (is_distinct form)) optimize sum)
-      ++ dimacs_of (length lists) (clauses_in lists ++ extra)
-  pub again : parse_formula text ≡ Some (length lists, clauses_in lists ++ extra)
-
 -- the text of a witness of k + 1 steps that shows a bad state of the file's machine; it is the one
 -- that the solver's answer to the file's query says
 pub record IsWitnessText (given : Option (List ℕ)) (f : File) (k : ℕ) (optimize : Bool)
@@ -112,37 +68,26 @@ pub record IsWitnessText (given : Option (List ℕ)) (f : File) (k : ℕ) (optim
   pub asks : IsQuery k optimize f query
   pub said : SaysWitness given query.encoded k witness
 
--- what the command puts into its writer for what is given and the file, which is of these bytes,
--- and what is then so of the file's machine
-abbrev pub Answers : FileCommand → Option (List ℕ) → Option (List ℕ) → File → List ℕ → Type 0
-Answers (commands.Clauses k optimize) given bytes f text = IsClausesText bytes f k optimize text
-Answers (commands.Window k form optimize) given bytes f text =
-    IsWindowText bytes form f k optimize text
-Answers (commands.Witness k optimize) given bytes f text = IsWitnessText given f k optimize text
-Answers commands.Run given bytes f text = IsShownLine given f text
-Answers (commands.Bounded k optimize) given bytes f text = IsBoundedText bytes f k optimize text
-Answers (commands.WitnessTo k optimize) given bytes f text =
-    IsWitnessToText given f k optimize text
+-- what the command puts into its writer for what is given and the file, and what is then so of the
+-- file's machine
+abbrev pub Answers : FileCommand → Option (List ℕ) → File → List ℕ → Type 0
+Answers (commands.Witness k optimize) given f text = IsWitnessText given f k optimize text
+Answers commands.Run given f text = IsShownLine given f text
+Answers (commands.WitnessTo k optimize) given f text = IsWitnessToText given f k optimize text
 
 -- ---- files
 
 -- the bytes are this file, of which the command asks something: within the limit with the further
 -- steps that it makes, or alone where these are folded or where it makes none
 abbrev pub IsAskedBy : FileCommand → ℕ → List ℕ → File → Type 0
-IsAskedBy (commands.Clauses k optimize) limit = IsAsked limit k
-IsAskedBy (commands.Window k form optimize) limit = IsAsked limit (k + 1)
 IsAskedBy (commands.Witness k optimize) limit = IsAsked limit k
 IsAskedBy commands.Run limit = λ bytes. Accepts bytes limit
-IsAskedBy (commands.Bounded k optimize) limit = IsAskedWithin limit
 IsAskedBy (commands.WitnessTo k optimize) limit = IsAskedWithin limit
 
 -- the verdict on a file that fits
 abbrev pub file_verdict : FileCommand → ℕ → File → Verdict
-file_verdict (commands.Clauses k optimize) limit f = asked_verdict limit k f
-file_verdict (commands.Window k form optimize) limit f = window_verdict form limit k f
 file_verdict (commands.Witness k optimize) limit f = asked_verdict limit k f
 file_verdict commands.Run limit f = Accepted
-file_verdict (commands.Bounded k optimize) limit f = bounded_verdict f
 file_verdict (commands.WitnessTo k optimize) limit f = bounded_verdict f
 
 -- ---- errors
@@ -159,9 +104,7 @@ verdict_of errors.Write = Accepted
 verdict_of errors.Memory = Short
 verdict_of errors.Open = Refused
 verdict_of (errors.Bounded e) = bounding.verdict_of e
-verdict_of (errors.Equality e) = equality.first_verdict e
 verdict_of (errors.Lasso e) = showing.verdict_of (claims.Lasso e)
-verdict_of (errors.Miter e) = comparing.first_verdict e
 verdict_of (errors.Unmade e) = edit_verdict e
 verdict_of (errors.Simulation e) = simulating.first_verdict e
 
@@ -173,14 +116,10 @@ error_of_claim (claims.Lasso e) = errors.Lasso e
 -- the command has this error in the place of an answer
 abbrev pub IsErrorOf : FileCommand → CheckError → Type 0
 IsErrorOf c errors.Write = ⊥
-IsErrorOf (commands.Clauses k optimize) errors.Memory = Unit {0}
-IsErrorOf (commands.Clauses k optimize) (errors.Answer e) = IsOfQuery e
-IsErrorOf (commands.Window k form optimize) (errors.Answer e) = IsOfWindow e
 IsErrorOf (commands.Witness k optimize) (errors.Answer e) = IsOfQuery e
 IsErrorOf (commands.Witness k optimize) (errors.Solution e) = Unit {0}
 IsErrorOf commands.Run (errors.Show e) = e ≢ shows.File read.Open
 IsErrorOf commands.Run (errors.Lasso e) = Unit {0}
-IsErrorOf (commands.Bounded k optimize) (errors.Bounded e) = IsOfQuestion e
 IsErrorOf (commands.WitnessTo k optimize) (errors.Bounded e) = IsOfWitness e
 IsErrorOf c e = ⊥
 
@@ -216,8 +155,6 @@ TellsOfAnswer c limit old new given failed e = ⊥
 -- the question of the file is too large only where the bound of what is made passes the limit
 abbrev pub TellsOfQuestion : FileCommand → ℕ → Option (List ℕ) → Option (List ℕ)
     → BoundedAnswerError → Type 0
-TellsOfQuestion (commands.Bounded k optimize) limit old new e =
-    bounding.TellsOfSize limit (λ c. question_size c k) old new e
 TellsOfQuestion (commands.WitnessTo k optimize) limit old new e =
     bounding.TellsOfSize limit (λ c. question_size c k) old new e
 TellsOfQuestion c limit old new e = ⊥
@@ -261,7 +198,7 @@ pub record ChecksFile {R P : Type 0} (left : R → Option (List ℕ)) (read_fail
   pub own : IfErr answer (IsErrorOf c)
   -- the text is its answer to the file that was read
   pub text : IfOk answer
-      (IsReadAs (IsAskedBy c limit) (Answers c (given p) (left r)) (left r) (left rest))
+      (IsReadAs (IsAskedBy c limit) (Answers c (given p)) (left r) (left rest))
   -- what is given beside the file is read only where the file is taken
   pub unread : IfErr answer (λ e. IsOfFileAlone e → used ≡ p)
   -- and a refusal of it tells why

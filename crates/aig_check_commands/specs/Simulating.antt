@@ -22,7 +22,7 @@ use Rattle.aig_simulated.specs.declared.error.SimulationError.TheVariants as sim
 use Rattle.aig_simulation.specs.declared.condition.Condition.{Condition}
 use Rattle.aig_check_commands.specs.declared.error.CheckError.{CheckError}
 use Rattle.aig_check_commands.specs.declared.error.CheckError.TheVariants as errors
-use Rattle.aig_check_commands.specs.Pairs.{safe_line}
+use Rattle.aig_check_commands.specs.Goals.{safe_line}
 use Rattle.aig_check_commands.specs.Running.{verdict_of}
 use Rattle.aig_check_commands.specs.Sums.{IsSum}
 use Rattle.aig_check_commands.specs.Titles.{title_text}

@@ -1,13 +1,11 @@
 -- Part of what is promised.
 -- What an error is about: a file, or none, and how the place is found where reading it stopped.
-use Rattle.std.specs.Prelude.{ℕ}
+use Rattle.std.specs.Prelude.{ℕ, zero}
 use Rattle.aig_answers.specs.declared.error.AnswerError.{AnswerError}
 use Rattle.aig_answers.specs.declared.error.AnswerError.TheVariants as answers
 use Rattle.aig_bounded.specs.declared.error.BoundedError.TheVariants as questions
 use Rattle.aig_answers.specs.declared.bounded_checks.error.BoundedAnswerError.{BoundedAnswerError}
 use Rattle.aig_answers.specs.declared.bounded_checks.error.BoundedAnswerError.TheVariants as bounded
-use Rattle.aig_answers.specs.declared.certificates.compare_error.MiterError.{MiterError}
-use Rattle.aig_answers.specs.declared.certificates.compare_error.MiterError.TheVariants as miter
 use Rattle.aig_answers.specs.declared.certificates.error.CertificateError.{CertificateError}
 use Rattle.aig_answers.specs.declared.certificates.error.CertificateError.TheVariants as certificate
 use Rattle.aig_command_line.specs.declared.tally.Measure.{Measure}
@@ -18,8 +16,6 @@ use Rattle.aig_edits.specs.declared.pair_error.PairError.{PairError}
 use Rattle.aig_edits.specs.declared.pair_error.PairError.TheVariants as pair
 use Rattle.aig_encode.specs.declared.error.EncodeError.{EncodeError}
 use Rattle.aig_encode.specs.declared.error.EncodeError.TheVariants as encode
-use Rattle.aig_answers.specs.declared.equality.error.EqualityError.{EqualityError}
-use Rattle.aig_answers.specs.declared.equality.error.EqualityError.TheVariants as equality
 use Rattle.aig_witness.specs.declared.fair.fault.LassoFault.{LassoFault}
 use Rattle.aig_witness.specs.declared.fair.fault.LassoFault.TheVariants as lassos
 use Rattle.aig_reader.specs.declared.error.ReadError.{ReadError}
@@ -27,8 +23,9 @@ use Rattle.aig_reader.specs.declared.error.ReadError.TheVariants as read
 use Rattle.aig_reader.specs.declared.error.Section.TheVariants as section
 use Rattle.aig_refutation.specs.declared.error.RefutationError.{RefutationError}
 use Rattle.aig_refutation.specs.declared.error.RefutationError.TheVariants as refutation
-use Rattle.aig_answers.specs.declared.safety.error.SafetyError.{SafetyError}
-use Rattle.aig_answers.specs.declared.safety.error.SafetyError.TheVariants as safety
+use Rattle.aig_answers.specs.declared.goals.error.GoalError.{GoalError}
+use Rattle.aig_answers.specs.declared.goals.error.GoalFault.{GoalFault}
+use Rattle.aig_answers.specs.declared.goals.error.GoalFault.TheVariants as goal_faults
 use Rattle.aig_answers.specs.declared.plans.errors.PlanError.{PlanError}
 use Rattle.aig_answers.specs.declared.plans.errors.PlanError.TheVariants as plans
 use Rattle.aig_answers.specs.declared.plans.errors.Why.{Why}
@@ -50,6 +47,10 @@ use Rattle.aig_simulation.specs.declared.condition.Condition.{Condition}
 use Rattle.aig_simulation.specs.declared.error.QuestionError.TheVariants as asking
 use Rattle.aig_simulation.specs.declared.sharing.error.SharingError.{SharingError}
 use Rattle.aig_simulation.specs.declared.sharing.error.SharingError.TheVariants as sharing
+use Rattle.aig_subjects.specs.declared.error.SubjectError.{SubjectError}
+use Rattle.aig_subjects.specs.declared.error.SubjectError.TheVariants as refusals
+use Rattle.aig_subjects.specs.declared.subject.Subject as of
+use Rattle.aig_subjects.specs.declared.subject.Subject.TheVariants as asked
 use Rattle.aig_check_commands.specs.declared.subjects.About.{About}
 use Rattle.aig_check_commands.specs.declared.subjects.Search.TheVariants as searches
 use Rattle.aig_check_commands.specs.declared.subjects.Subject.{Subject}
@@ -142,18 +143,18 @@ about_edit edit.Memory = nothing
 about_edit edit.Write = nothing
 about_edit e = whole subjects.File
 
--- FILE, or the file beside it
-abbrev pub about_pair : PairError → About
-about_pair (pair.Read e) = about_read subjects.File e
-about_pair (pair.Other e) = about_read subjects.Other e
-about_pair (pair.Misfit m) = whole subjects.Other
-about_pair pair.TooLarge = whole subjects.File
-about_pair pair.Memory = nothing
-about_pair pair.Write = nothing
+-- FILE, or the file behind it, which is this one
+abbrev pub about_pair : Subject → PairError → About
+about_pair beside (pair.Read e) = about_read subjects.File e
+about_pair beside (pair.Other e) = about_read beside e
+about_pair beside (pair.Misfit m) = whole beside
+about_pair beside pair.TooLarge = whole subjects.File
+about_pair beside pair.Memory = nothing
+about_pair beside pair.Write = nothing
 
 -- one of two files, or of the proofs about them
 abbrev pub about_certificate : CertificateError → About
-about_certificate (certificate.Pair e) = about_pair e
+about_certificate (certificate.Pair e) = about_pair subjects.Other e
 about_certificate (certificate.Query e) = about_answer subjects.Given e
 about_certificate (certificate.Window e) = about_answer subjects.Step e
 
@@ -166,43 +167,42 @@ about_bounded (bounded.Question questions.Memory) = nothing
 about_bounded (bounded.Refutation e) = about_refutation subjects.Given e
 about_bounded (bounded.Solution e) = about_solution e
 
--- FILE, or one of the proofs beside it
-abbrev pub about_safety : SafetyError → About
-about_safety (safety.File e) = about_answer subjects.Given e
-about_safety (safety.Base e) = about_bounded e
-about_safety (safety.Step e) = about_answer subjects.Step e
+-- the proof of the question at this place of a plan: behind CERT, where that is of a miter
+abbrev pub proof_of : of.Subject → ℕ → Subject
+proof_of (asked.MiterCertified comparison) zero = subjects.Step
+proof_of (asked.MiterCertified comparison) n = subjects.Third
+proof_of subject n = subjects.Nth n
 
 -- FILE, of whose question there are no clauses, or the question's proof
-abbrev pub about_why : ℕ → Why → About
-about_why n (whys.Clauses questions.TooLarge) = whole subjects.File
-about_why n (whys.Clauses questions.Memory) = nothing
-about_why n (whys.Refutation e) = about_refutation (subjects.Nth n) e
+abbrev pub about_why : Subject → Why → About
+about_why proof (whys.Clauses questions.TooLarge) = whole subjects.File
+about_why proof (whys.Clauses questions.Memory) = nothing
+about_why proof (whys.Refutation e) = about_refutation proof e
 
 -- FILE, or one of the proofs of a plan
-abbrev pub about_plan : PlanError → About
-about_plan (plans.Refused e) = about_why e.index e.why
-about_plan e = whole subjects.File
+abbrev pub about_plan : of.Subject → PlanError → About
+about_plan subject (plans.Refused e) = about_why (proof_of subject e.index) e.why
+about_plan subject e = whole subjects.File
 
--- one of two files, or of the proofs that their machines are equal at every step
-abbrev pub about_equality : EqualityError → About
-about_equality (equality.Pair e) = about_pair e
-about_equality (equality.Miter e) = about_safety e
+-- a certificate: behind FILE, or behind FILE and OTHER
+abbrev pub certificate_of : of.Subject → Subject
+certificate_of (asked.MiterCertified comparison) = subjects.Given
+certificate_of subject = subjects.Other
 
--- the certificate of a miter, which is read after two files
-abbrev pub about_certificate_of : PairError → About
-about_certificate_of (pair.Read e) = about_read subjects.File e
-about_certificate_of (pair.Other e) = about_read subjects.Given e
-about_certificate_of (pair.Misfit m) = whole subjects.Given
-about_certificate_of pair.TooLarge = whole subjects.File
-about_certificate_of pair.Memory = nothing
-about_certificate_of pair.Write = nothing
+-- one of the files of what is asked about
+abbrev pub about_subject : of.Subject → SubjectError → About
+about_subject subject (refusals.File e) = about_edit e
+about_subject subject (refusals.Pair e) = about_pair subjects.Other e
+about_subject subject (refusals.Certificate e) = about_pair (certificate_of subject) e
 
--- one of two files, or their certificate, or one of the proofs about it
-abbrev pub about_miter : MiterError → About
-about_miter (miter.Pair e) = about_pair e
-about_miter (miter.Certificate (certificate.Pair e)) = about_certificate_of e
-about_miter (miter.Certificate (certificate.Query e)) = about_answer subjects.Step e
-about_miter (miter.Certificate (certificate.Window e)) = about_answer subjects.Third e
+-- one of these, or of the proofs
+abbrev pub about_goal : GoalError → About
+about_goal e = by_fault e.subject e.fault
+  where
+    by_fault : of.Subject → GoalFault → About
+    by_fault subject (goal_faults.Subject e) = about_subject subject e
+    by_fault subject goal_faults.Memory = nothing
+    by_fault subject (goal_faults.Plan e) = about_plan subject e
 
 -- a witness circuit whose names don't say which leaves it shares
 abbrev pub about_sharing : SharingError → About
@@ -241,9 +241,7 @@ about_error (errors.Solution e) = about_solution e
 about_error (errors.Show e) = about_show e
 about_error (errors.Certificate e) = about_certificate e
 about_error (errors.Bounded e) = about_bounded e
-about_error (errors.Goal e) = about_plan e.error
-about_error (errors.Equality e) = about_equality e
+about_error (errors.Goal e) = about_goal e
 about_error (errors.Lasso fault) = about_lasso fault
-about_error (errors.Miter e) = about_miter e
 about_error (errors.Unmade e) = about_edit e
 about_error (errors.Simulation e) = about_simulation e

@@ -1,13 +1,10 @@
 //! What may be the matter with a proof that is refused.
 
 ghost use Rattle.std.specs.Prelude.{◌≡◌};
-ghost use Rattle.aig_check_commands.specs.Advising.{Advises, has_misfit, is_misfit, misfits_answer, misfits_bounded, misfits_certificate, misfits_condition, misfits_plan, misfits_safety};
+ghost use Rattle.aig_check_commands.specs.Advising.{Advises, has_misfit, is_misfit, misfits_condition, misfits_fault, misfits_plan};
 
 use crate::error::CheckError;
-use aig_answers::{
-    AnswerError, BoundedAnswerError, CertificateError, EqualityError, MiterError, PlanError,
-    Refused, SafetyError, Why,
-};
+use aig_answers::{GoalFault, PlanError, Refused, Why};
 use aig_command_line::{Ending, Teller};
 use aig_refutation::RefutationError;
 use aig_simulated::{ConditionError, SimulationError};
@@ -27,37 +24,7 @@ fn is_misfit(error: RefutationError) -> bool
     }
 }
 
-/// Whether there is no answer about a file as a proof is refused so.
-fn misfits_answer(error: AnswerError) -> bool
-    ensures { result ≡ misfits_answer error }
-{
-    match error {
-        AnswerError::Refutation(error) => is_misfit(error),
-        _ => false,
-    }
-}
-
-/// The same of an answer about the steps up to one.
-fn misfits_bounded(error: BoundedAnswerError) -> bool
-    ensures { result ≡ misfits_bounded error }
-{
-    match error {
-        BoundedAnswerError::Refutation(error) => is_misfit(error),
-        _ => false,
-    }
-}
-
-/// The same of proofs that a machine is safe.
-fn misfits_safety(error: SafetyError) -> bool
-    ensures { result ≡ misfits_safety error }
-{
-    match error {
-        SafetyError::File(error) | SafetyError::Step(error) => misfits_answer(error),
-        SafetyError::Base(error) => misfits_bounded(error),
-    }
-}
-
-/// The same of the proofs of a plan.
+/// Whether a proof of a plan is refused so.
 fn misfits_plan(error: PlanError) -> bool
     ensures { result ≡ misfits_plan error }
 {
@@ -72,13 +39,13 @@ fn misfits_plan(error: PlanError) -> bool
     }
 }
 
-/// The same of proofs about two files.
-fn misfits_certificate(error: CertificateError) -> bool
-    ensures { result ≡ misfits_certificate error }
+/// The same of the proofs of a goal.
+fn misfits_fault(fault: GoalFault) -> bool
+    ensures { result ≡ misfits_fault fault }
 {
-    match error {
-        CertificateError::Pair(_) => false,
-        CertificateError::Query(error) | CertificateError::Window(error) => misfits_answer(error),
+    match fault {
+        GoalFault::Plan(error) => misfits_plan(error),
+        _ => false,
     }
 }
 
@@ -97,12 +64,7 @@ fn has_misfit(ending: Ending<CheckError>) -> bool
     ensures { result ≡ has_misfit ending }
 {
     match ending {
-        Ending::Refused(CheckError::Goal(error)) => misfits_plan(error.error),
-        Ending::Refused(CheckError::Certificate(error)) => misfits_certificate(error),
-        Ending::Refused(CheckError::Equality(EqualityError::Miter(error))) => misfits_safety(error),
-        Ending::Refused(CheckError::Miter(MiterError::Certificate(error))) => {
-            misfits_certificate(error)
-        }
+        Ending::Refused(CheckError::Goal(error)) => misfits_fault(error.fault),
         Ending::Refused(CheckError::Simulation(SimulationError::Condition(_, error))) => {
             misfits_condition(error)
         }

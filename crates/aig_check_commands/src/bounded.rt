@@ -1,4 +1,4 @@
-//! What the commands of bounded checks do with the bytes of a file, and of a proof or a solver's answer.
+//! The clauses of the first steps, and what a command does with the bytes of a file and of a solver's answer to them.
 
 ghost use Rattle.std.specs.Prelude.{◌≡◌, ◌<◌, ◌^◌, ◌++◌, All, length};
 ghost use Rattle.std.specs.List.{flat_map, zip};
@@ -9,21 +9,19 @@ ghost use Rattle.aig_dimacs.specs.Text.{dimacs_of};
 ghost use Rattle.aig_output.specs.Sinks.{BuffersOrStops, WritesOrStops};
 ghost use Rattle.aig_check_commands.specs.Titles.{title_text};
 ghost use Rattle.aig_check_commands.specs.Bounded.{bounded_comments, letter_of, place_line};
-ghost use Rattle.aig_check_commands.specs.Running.{Runs, nothing_fails, nothing_given};
+ghost use Rattle.aig_check_commands.specs.Running.{Runs};
 
 use crate::command::FileCommand;
 use crate::comments::buffer_literal;
 use crate::error::CheckError;
-use crate::printing::{after_writing, tell_formula};
-use crate::titles::{Question, Summed, Title, write_title};
-use aig_answers::{BoundedClauses, Named, bounded, bounded_witness};
+use crate::printing::after_writing;
+use crate::titles::{Title, write_title};
+use aig_answers::{BoundedClauses, Named, bounded_witness};
 use aig_base::{Sink, Source, StreamFault, Var};
-use aig_command_line::Origin;
 use aig_dimacs::write_dimacs;
 use aig_output::OutputBuffer;
 use aig_witness::write_witness;
 use std::alloc::Global;
-use std::marker::Brand;
 
 /// The letter of an input or of a latch, in a line about it.
 fn letter(named: &Named) -> &'static [u8]
@@ -73,7 +71,7 @@ fn write_front<W: Sink>(w: &mut W, title: &Title, made: &BoundedClauses) -> Resu
 }
 
 /// Writes a title, the lines of a question's inputs, and then its clauses.
-fn write_bounded<W: Sink>(
+pub(crate) fn write_bounded<W: Sink>(
     w: &mut W,
     title: &Title,
     made: &BoundedClauses,
@@ -89,52 +87,7 @@ fn write_bounded<W: Sink>(
     write_dimacs(w, &made.clauses, &made.extra)
 }
 
-/// Prints the clauses of one question of the file whose bytes are the origin.
-fn print_bounded_of<R: Source + Drop, B: Origin, W: Sink>(
-    alloc: Global,
-    limit: usize,
-    k: usize,
-    optimize: bool,
-    r: R,
-    w: &mut W,
-) -> Result<(), CheckError>
-    requires origin { R.left r ≡ B.bytes }
-    requires limit { IsLimit limit }
-    ensures { let command = FileCommand.Bounded k optimize in
-        (rest : R) × Runs R.left R.failed nothing_given nothing_fails W.held W.failed
-        command limit r tt w.old result rest tt w.new }
-{
-    let mut file = Summed::<R, B>::new(r);
-    let made = bounded(alloc, &mut file, limit, k, optimize)?;
-    tell_formula(&made.clauses, &made.extra);
-    let title = Title {
-        question: Question::Bounded { k },
-        optimize,
-        sum: file.finish(),
-        beside: None,
-    };
-    after_writing(write_bounded(w, &title, &made))
-}
-
-/// Prints the clauses of one question: whether a bad state is reached at a step up to `k`. Before them stand their title, and comments
-/// that say which input or latch of the file each input of the question is, at which step, and its variable.
-pub fn print_bounded<R: Source + Drop, W: Sink>(
-    alloc: Global,
-    limit: usize,
-    k: usize,
-    optimize: bool,
-    r: R,
-    w: &mut W,
-) -> Result<(), CheckError>
-    requires { IsLimit limit }
-    ensures { let command = FileCommand.Bounded k optimize in
-        (rest : R) × Runs R.left R.failed nothing_given nothing_fails W.held W.failed
-        command limit r tt w.old result rest tt w.new }
-{
-    print_bounded_of::<R, Brand, W>(alloc, limit, k, optimize, r, w)
-}
-
-/// Reads a solver's answer to the clauses of `print_bounded`, and prints the witness that it says, which was checked: of the first
+/// Reads a solver's answer to the clauses of the first steps, and prints the witness that it says, which was checked: of the first
 /// step with a bad state.
 pub fn print_witness_to<R: Source, P: Source, W: Sink>(
     alloc: Global,

@@ -2,39 +2,24 @@
 
 ghost use Rattle.std.specs.Prelude.{◌≡◌, ◌↔◌, ◌<◌, ◌^◌, ◌∷◌, Bool, IfNone, IfSome, List, Some, ℕ, length, map, string_bytes};
 ghost use Rattle.aig_command_line.specs.Arguments.{seen};
+ghost use Rattle.aig_answers.specs.declared.goals.goal.Goal.{Goal};
 ghost use Rattle.aig_check_commands.specs.Fits.{Fits};
-ghost use Rattle.aig_check_commands.specs.CommandWords.{AreCommand, FitNone, Give, IsAlone, IsCall, IsOnWitness, IsWhole, beside_of, check_of, command_of, constrained, equal_name, form_of, name_of, of_both, on_certificate, on_step, paths_of, raw_alone, raw_word, step_of, under, window_of, witness_form, witness_name};
+ghost use Rattle.aig_check_commands.specs.CommandWords.{AreCommand, FitNone, Give, IsAlone, IsCall, IsOnWitness, IsWhole, beside_of, check_of, command_of, compared_under, constrained, equal_name, form_of, has_two_settings, name_of, of_both, on_certificate, on_step, path_count, paths_of, raw_alone, raw_word, step_of, under, window_of, witness_form, witness_name};
 ghost use Rattle.aig_check_commands.specs.declared.command.Asked.{Asked};
 ghost use Rattle.aig_check_commands.specs.declared.command.Command.{Command};
 ghost use Rattle.aig_simulation.specs.Names.{condition_name};
 ghost use Rattle.aig_simulation.specs.declared.condition.Condition.{Condition};
 
-use crate::goals::Goal;
 use crate::justice::{Justice, is_asked, is_word, justice_first};
-use aig_answers::Window;
+use aig_answers::{Ask, Goal, Question, Window, asked_with};
 use aig_command_line::{ArgumentForm, Given, HasArguments, Step, find, limited};
 use aig_edits::{Comparison, Constraints, Matching, Starts, constraints_first};
 use aig_simulated::Condition;
+use aig_subjects::{FileSubject, Subject};
 
 /// What the program is asked to do with a file.
 #[derive(Clone, Copy)]
 pub enum FileCommand {
-    /// Print the clauses that ask for a bad state at step `k`, and which literals stand for what.
-    Clauses {
-        /// The step.
-        k: usize,
-        /// Whether exclusive ors and choices have clauses of their own.
-        optimize: bool,
-    },
-    /// Print the clauses that ask for a window of `k + 2` steps with a bad state first at its end.
-    Window {
-        /// How many steps come before the last two.
-        k: usize,
-        /// Which windows are looked at.
-        form: Window,
-        /// Whether exclusive ors and choices have clauses of their own.
-        optimize: bool,
-    },
     /// Print the witness of a bad state at step `k` that a solver's answer says.
     Witness {
         /// The step.
@@ -44,13 +29,6 @@ pub enum FileCommand {
     },
     /// Check that a witness shows a bad state.
     Run,
-    /// Print the clauses that ask for a bad state up to step `k`, and which variables stand for what.
-    Bounded {
-        /// The step.
-        k: usize,
-        /// Whether exclusive ors and choices have clauses of their own.
-        optimize: bool,
-    },
     /// Print the witness of a bad state up to step `k` that a solver's answer says.
     WitnessTo {
         /// The step.
@@ -63,37 +41,10 @@ pub enum FileCommand {
 /// What the program is asked to do with two files.
 #[derive(Clone, Copy)]
 pub enum PairCommand {
-    /// Check proofs that a certificate shows that no bad state is reached at any step.
-    Certified {
-        /// Whether exclusive ors and choices have clauses of their own.
-        optimize: bool,
-    },
     /// Print the clauses that the proofs of `certified` are of.
     Obligations {
         /// Whether exclusive ors and choices have clauses of their own.
         optimize: bool,
-    },
-    /// Check a proof that the files' machines are equal at step `k`.
-    Equal {
-        /// How registers with open start begin, and what constraints say.
-        comparison: Comparison,
-        /// The step.
-        k: usize,
-        /// Whether exclusive ors and choices have clauses of their own.
-        optimize: bool,
-    },
-    /// Check proofs that the files' machines are equal at every step.
-    AlwaysEqual {
-        /// How registers with open start begin, and what constraints say.
-        comparison: Comparison,
-        /// How many steps come before the last two of a window.
-        k: usize,
-        /// Which windows are looked at.
-        form: Window,
-        /// Whether exclusive ors and choices have clauses of their own in the question of BASE.
-        base_optimize: bool,
-        /// Whether they have in the question of STEP.
-        step_optimize: bool,
     },
 }
 
@@ -102,23 +53,20 @@ pub enum PairCommand {
 pub enum Command {
     /// A command on FILE.
     File(FileCommand),
+    /// Print the clauses of a question of FILE's circuit, and which literals or variables stand for what.
+    Print(Question),
     /// A command on FILE and on CERT or OTHER.
     Pair(PairCommand),
-    /// Check proofs of FILE.
+    /// Check proofs of FILE, or of FILE and the files behind it.
     Check {
+        /// What is asked about.
+        subject: Subject,
         /// What they are to show.
         goal: Goal,
         /// Whether exclusive ors and choices have clauses of their own in questions of steps.
         base_optimize: bool,
         /// Whether they have in the question of a window.
         step_optimize: bool,
-    },
-    /// Check that a certificate of the miter shows that the machines of FILE and OTHER are equal at every step.
-    EqualBy {
-        /// How registers with open start begin, and what constraints say.
-        comparison: Comparison,
-        /// Whether exclusive ors and choices have clauses of their own.
-        optimize: bool,
     },
     /// Check proofs that a witness circuit, which simulates FILE's machine, shows that no bad state is reached at any step.
     Simulated {
@@ -295,10 +243,11 @@ impl WitnessAction {
 }
 
 /// The command that checks proofs of a goal, with one setting for all of them.
-fn check_of(goal: Goal, optimize: bool) -> Command
-    ensures { result ≡ check_of goal optimize }
+fn check_of(subject: Subject, goal: Goal, optimize: bool) -> Command
+    ensures { result ≡ check_of subject goal optimize }
 {
     Command::Check {
+        subject,
         goal,
         base_optimize: optimize,
         step_optimize: optimize,
@@ -382,36 +331,40 @@ impl Action {
         ensures { result ≡ command_of self k distinct optimize }
     {
         let form = window_of(distinct);
+        let file = Subject::File(FileSubject::Own);
+        let certified = Subject::Certified(FileSubject::Own);
+        let each_of_one = Goal::SafeBySteps(0, Window::Plain);
         match self {
-            Action::Clauses => Command::File(FileCommand::Clauses { k, optimize }),
-            Action::Window => Command::File(FileCommand::Window { k, form, optimize }),
-            Action::Refuted => check_of(Goal::Refuted(k), optimize),
-            Action::Inductive => check_of(Goal::Inductive(k, form), optimize),
+            Action::Clauses => Command::Print(asked_with(optimize, Ask::Step(k))),
+            Action::Window => Command::Print(asked_with(optimize, Ask::Window(k, form))),
+            Action::Refuted => check_of(file, Goal::Refuted(k), optimize),
+            Action::Inductive => check_of(file, Goal::Inductive(k, form), optimize),
             Action::Witness => Command::File(FileCommand::Witness { k, optimize }),
             Action::Run => Command::File(FileCommand::Run),
-            Action::Certified => Command::Pair(PairCommand::Certified { optimize }),
-            Action::Equal(starts) => Command::Pair(PairCommand::Equal {
-                comparison: of_both(starts),
-                k,
-                optimize,
-            }),
+            Action::Certified => check_of(certified, each_of_one, optimize),
+            Action::Equal(starts) => {
+                check_of(Subject::Miter(of_both(starts)), Goal::Refuted(k), optimize)
+            }
             Action::Obligations => Command::Pair(PairCommand::Obligations { optimize }),
-            Action::Bounded => Command::File(FileCommand::Bounded { k, optimize }),
-            Action::RefutedTo => check_of(Goal::RefutedTo(k), optimize),
+            Action::Bounded => Command::Print(asked_with(optimize, Ask::UpTo(k))),
+            Action::RefutedTo => check_of(file, Goal::RefutedTo(k), optimize),
             Action::WitnessTo => Command::File(FileCommand::WitnessTo { k, optimize }),
-            Action::Safe => check_of(Goal::Safe(k, form), optimize),
-            Action::AlwaysEqual(starts) => Command::Pair(PairCommand::AlwaysEqual {
-                comparison: of_both(starts),
-                k,
-                form,
-                base_optimize: optimize,
-                step_optimize: optimize,
-            }),
-            Action::EqualBy(starts) => Command::EqualBy {
-                comparison: of_both(starts),
-                optimize,
-            },
-            Action::SafeBySteps => check_of(Goal::SafeBySteps(k, form), optimize),
+            Action::Safe => check_of(file, Goal::Safe(k, form), optimize),
+            Action::AlwaysEqual(starts) => {
+                check_of(
+                    Subject::Miter(of_both(starts)),
+                    Goal::Safe(k, form),
+                    optimize,
+                )
+            }
+            Action::EqualBy(starts) => {
+                check_of(
+                    Subject::MiterCertified(of_both(starts)),
+                    each_of_one,
+                    optimize,
+                )
+            }
+            Action::SafeBySteps => check_of(file, Goal::SafeBySteps(k, form), optimize),
         }
     }
 }
@@ -443,6 +396,19 @@ fn raw_word(word: &String) -> Option<bool>
     }
 }
 
+/// Whether proofs of steps and of a window may have different settings: not those of a certificate.
+fn has_two_settings(subject: Subject, goal: Goal) -> bool
+    ensures { result ≡ has_two_settings subject goal }
+{
+    matches!(
+        (subject, goal),
+        (
+            Subject::File(_) | Subject::Miter(_),
+            Goal::Safe(..) | Goal::SafeBySteps(..)
+        )
+    )
+}
+
 /// The command, where the clauses of STEP alone are optimised, or those of BASE alone.
 fn raw_alone(step_optimize: bool, command: Command) -> Option<Command>
     ensures exact { result ≡ raw_alone step_optimize command }
@@ -450,39 +416,14 @@ fn raw_alone(step_optimize: bool, command: Command) -> Option<Command>
     ensures beside { IfSome result (λ c. beside_of c ≡ beside_of command) }
     ensures step { IfSome result (λ c. step_of c ≡ step_of command) }
 {
-    let base_optimize = !step_optimize;
     match command {
-        Command::Check {
-            goal: Goal::Safe(k, form),
-            ..
-        } => Some(Command::Check {
-            goal: Goal::Safe(k, form),
-            base_optimize,
-            step_optimize,
-        }),
-        Command::Check {
-            goal: Goal::SafeBySteps(k, form),
-            ..
-        } => Some(Command::Check {
-            goal: Goal::SafeBySteps(k, form),
-            base_optimize,
-            step_optimize,
-        }),
-        Command::Pair(
-            PairCommand::AlwaysEqual {
-                comparison,
-                k,
-                form,
-                ..
-            },
-        ) => {
-            Some(Command::Pair(PairCommand::AlwaysEqual {
-                comparison,
-                k,
-                form,
-                base_optimize,
+        Command::Check { subject, goal, .. } if has_two_settings(subject, goal) => {
+            Some(Command::Check {
+                subject,
+                goal,
+                base_optimize: !step_optimize,
                 step_optimize,
-            }))
+            })
         }
         _ => None,
     }
@@ -590,6 +531,27 @@ fn command_first(words: &[String]) -> Option<(Command, Given<'_>)>
     }
 }
 
+/// The files that are compared, with constraints that say this, or none where none are.
+fn compared_under(constraints: Constraints, subject: Subject) -> Option<Subject>
+    ensures exact { result ≡ compared_under constraints subject }
+    ensures paths { IfSome result (λ s. path_count s ≡ path_count subject) }
+    ensures beside { IfSome result (λ s. (goal : Goal) (base step : Bool)
+        → beside_of (Command.Check s goal base step)
+        ≡ beside_of (Command.Check subject goal base step)) }
+{
+    match subject {
+        Subject::Miter(comparison) => Some(Subject::Miter(Comparison {
+            constraints,
+            ..comparison
+        })),
+        Subject::MiterCertified(comparison) => Some(Subject::MiterCertified(Comparison {
+            constraints,
+            ..comparison
+        })),
+        _ => None,
+    }
+}
+
 /// The command that compares, with constraints that say this, or none where it doesn't compare.
 fn constrained(constraints: Constraints, command: Command) -> Option<Command>
     ensures exact { result ≡ constrained constraints command }
@@ -598,52 +560,20 @@ fn constrained(constraints: Constraints, command: Command) -> Option<Command>
     ensures step { IfSome result (λ c. step_of c ≡ step_of command) }
 {
     match command {
-        Command::Pair(
-            PairCommand::Equal {
-                comparison,
-                k,
-                optimize,
-            },
-        ) => {
-            Some(Command::Pair(PairCommand::Equal {
-                comparison: Comparison {
-                    constraints,
-                    ..comparison
-                },
-                k,
-                optimize,
-            }))
-        }
-        Command::Pair(
-            PairCommand::AlwaysEqual {
-                comparison,
-                k,
-                form,
+        Command::Check {
+            subject,
+            goal,
+            base_optimize,
+            step_optimize,
+        } => {
+            let subject = compared_under(constraints, subject)?;
+            Some(Command::Check {
+                subject,
+                goal,
                 base_optimize,
                 step_optimize,
-            },
-        ) => {
-            Some(Command::Pair(PairCommand::AlwaysEqual {
-                comparison: Comparison {
-                    constraints,
-                    ..comparison
-                },
-                k,
-                form,
-                base_optimize,
-                step_optimize,
-            }))
+            })
         }
-        Command::EqualBy {
-            comparison,
-            optimize,
-        } => Some(Command::EqualBy {
-            comparison: Comparison {
-                constraints,
-                ..comparison
-            },
-            optimize,
-        }),
         _ => None,
     }
 }

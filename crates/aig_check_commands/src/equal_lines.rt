@@ -2,7 +2,7 @@
 
 ghost use Rattle.std.specs.Prelude.{◌≡◌, ◌<◌, ◌++◌, ◌∷◌, [], length};
 ghost use Rattle.aig_output.specs.Sinks.{BuffersOrStops, WritesOrStops};
-ghost use Rattle.aig_check_commands.specs.Pairs.{always_line, comparison_text, equal_line, starts_text};
+ghost use Rattle.aig_check_commands.specs.EqualLines.{always_line, comparison_text, equal_line, starts_text};
 
 use aig_base::{Sink, StreamFault};
 use aig_edits::{Comparison, Constraints, Matching, Starts};

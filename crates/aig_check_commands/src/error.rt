@@ -4,8 +4,7 @@ ghost use Rattle.std.specs.Prelude.{◌≡◌};
 ghost use Rattle.aig_check_commands.specs.Running.{error_of_claim};
 ghost use Rattle.aig_check_commands.specs.declared.error.CheckError.TheVariants as errors;
 
-use crate::goals::GoalError;
-use aig_answers::{AnswerError, BoundedAnswerError, CertificateError, EqualityError, MiterError};
+use aig_answers::{AnswerError, BoundedAnswerError, CertificateError, GoalError};
 use aig_base::{MemoryError, StreamFault};
 use aig_edits::EditError;
 use aig_simulated::SimulationError;
@@ -30,7 +29,7 @@ pub enum CheckError {
     /// The witness is refused, or shows no bad state.
     #[error(transparent)]
     Show(ShowError),
-    /// There is no answer about two files.
+    /// There are no clauses of a certificate's proofs.
     #[error(transparent)]
     Certificate(CertificateError),
     /// The answer wasn't written.
@@ -42,15 +41,9 @@ pub enum CheckError {
     /// What proofs are to show isn't shown.
     #[error("{0}")]
     Goal(GoalError),
-    /// It isn't shown that two files' machines are equal at every step.
-    #[error(transparent)]
-    Equality(EqualityError),
     /// The witness shows no fair lasso.
     #[error(transparent)]
     Lasso(LassoFault),
-    /// A certificate doesn't show that two files' machines are equal at every step.
-    #[error(transparent)]
-    Miter(MiterError),
     /// The file is refused, or nothing is made of it to ask about a justice property.
     #[error(transparent)]
     Unmade(EditError),
@@ -110,19 +103,11 @@ impl From<BoundedAnswerError> for CheckError {
     }
 }
 
-impl From<EqualityError> for CheckError {
-    ghost from_gives = { λ e r. r ≡ errors.Equality e };
+impl From<GoalError> for CheckError {
+    ghost from_gives = { λ e r. r ≡ errors.Goal e };
 
-    fn from(error: EqualityError) -> CheckError {
-        CheckError::Equality(error)
-    }
-}
-
-impl From<MiterError> for CheckError {
-    ghost from_gives = { λ e r. r ≡ errors.Miter e };
-
-    fn from(error: MiterError) -> CheckError {
-        CheckError::Miter(error)
+    fn from(error: GoalError) -> CheckError {
+        CheckError::Goal(error)
     }
 }
 

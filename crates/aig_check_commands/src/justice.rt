@@ -2,12 +2,15 @@
 
 ghost use Rattle.std.specs.Prelude.{◌≡◌, ◌↔◌, ◌∷◌, true, ℕ, IfNone, IfSome, List, Option, map, string_bytes};
 ghost use Rattle.aig_format.specs.Text.{IsNumber};
-ghost use Rattle.aig_check_commands.specs.Justice.{AreJustice, IsNumbered, is_asked, is_asked_of};
+ghost use Rattle.aig_subjects.specs.Subjects.{file_count};
+ghost use Rattle.aig_check_commands.specs.Goals.{is_asked_of};
+ghost use Rattle.aig_check_commands.specs.Justice.{AreJustice, IsNumbered, compares_files, file_subject, is_asked, made_for, subject_of};
 ghost use Rattle.aig_check_commands.specs.declared.justice.Justice.{Justice};
 
-use crate::command::{Command, FileCommand, PairCommand};
-use crate::goals::Goal;
+use crate::command::Command;
+use aig_answers::Goal;
 use aig_command_line::steps;
+use aig_subjects::{FileSubject, Subject};
 
 /// Which justice property of FILE is asked about, by which file that is made of it.
 #[derive(Clone, Copy)]
@@ -81,32 +84,78 @@ pub(crate) fn justice_first(words: &[String]) -> Option<(Option<Justice>, &[Stri
     Some((Some(Justice { property, rounds }), rest))
 }
 
-/// Whether proofs of a goal are asked of a justice property: those of one proof are asked of its fair lassos alone, and those of each step
-/// aren't.
-fn is_asked_of(goal: Goal, justice: Justice) -> bool
-    ensures { result ≡ is_asked_of goal justice }
+/// The circuit that is made of FILE for a justice property.
+fn made_for(justice: Justice) -> FileSubject
+    ensures { result ≡ made_for justice }
 {
-    match goal {
-        Goal::Refuted(_) | Goal::RefutedTo(_) | Goal::Inductive(..) => justice.rounds.is_none(),
-        Goal::Safe(..) => true,
-        Goal::SafeBySteps(..) => false,
+    let property = justice.property;
+    match justice.rounds {
+        None => FileSubject::Live { property },
+        Some(rounds) => FileSubject::Rounds { property, rounds },
     }
 }
 
-/// Whether a command is asked of a justice property, where one is given: those of one proof are asked of its fair lassos alone.
+/// The circuit of FILE that is asked about.
+pub(crate) fn file_subject(justice: Option<Justice>) -> FileSubject
+    ensures { result ≡ file_subject justice }
+{
+    match justice {
+        None => FileSubject::Own,
+        Some(justice) => made_for(justice),
+    }
+}
+
+/// What is asked about, where a justice property of FILE may be.
+pub(crate) fn subject_of(justice: Option<Justice>, subject: Subject) -> Subject
+    ensures is { result ≡ subject_of justice subject }
+    ensures files { file_count result ≡ file_count subject }
+{
+    match (justice, subject) {
+        (Some(justice), Subject::File(_)) => Subject::File(made_for(justice)),
+        (Some(justice), Subject::Certified(_)) => Subject::Certified(made_for(justice)),
+        _ => subject,
+    }
+}
+
+/// Whether files are compared, which isn't asked of a justice property.
+fn compares_files(subject: Subject) -> bool
+    ensures { result ≡ compares_files subject }
+{
+    matches!(subject, Subject::Miter(_) | Subject::MiterCertified(_))
+}
+
+/// Whether a goal is asked of a subject.
+fn is_asked_of(subject: Subject, goal: Goal) -> bool
+    ensures { result ≡ is_asked_of subject goal }
+{
+    match (subject, goal) {
+        (Subject::File(FileSubject::Own), _) => true,
+        (Subject::File(FileSubject::Live { .. }), Goal::SafeBySteps(..)) => false,
+        (Subject::File(FileSubject::Live { .. }), _) => true,
+        (Subject::File(FileSubject::Rounds { .. }), Goal::Safe(..)) => true,
+        (Subject::Miter(_), Goal::Refuted(_) | Goal::Safe(..)) => true,
+        (Subject::Certified(_) | Subject::MiterCertified(_), Goal::SafeBySteps(..)) => true,
+        _ => false,
+    }
+}
+
+/// Whether a command is asked, of a justice property where one is given.
 pub(crate) fn is_asked(justice: Option<Justice>, command: Command) -> bool
     ensures { result ≡ is_asked justice command }
 {
-    let Some(justice) = justice else {
-        return true;
-    };
-    match command {
-        Command::File(
-            FileCommand::Clauses { .. } | FileCommand::Window { .. } | FileCommand::Bounded { .. },
+    match (command, justice) {
+        (Command::Check { subject, goal, .. }, _) => {
+            (justice.is_none() || !compares_files(subject))
+                && is_asked_of(subject_of(justice, subject), goal)
+        }
+        (_, None) => true,
+        (
+            Command::Print(_)
+            | Command::Pair(_)
+            | Command::Simulated { .. }
+            | Command::Obligation { .. },
+            Some(_),
         ) => true,
-        Command::Check { goal, .. } => is_asked_of(goal, justice),
-        Command::Pair(PairCommand::Certified { .. } | PairCommand::Obligations { .. }) => true,
-        Command::Simulated { .. } | Command::Obligation { .. } => true,
         _ => false,
     }
 }

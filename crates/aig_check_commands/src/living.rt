@@ -4,12 +4,13 @@ ghost use Rattle.std.specs.Prelude.{◌≡◌, ◌<◌, ◌^◌, ◌+◌, ◌++�
 ghost use Rattle.aig_command_line.specs.Limits.{IsLimit};
 ghost use Rattle.aig_edits.specs.Edits.{IsEditOwn, ReadsFile, edit_verdict};
 ghost use Rattle.aig_output.specs.Sinks.{BuffersOrStops, WritesOrStops};
-ghost use Rattle.aig_check_commands.specs.Goals.{fair_line, last_step, lasso_text, lassos_line, no_run_line};
+ghost use Rattle.aig_answers.specs.Goals.{last_step};
+ghost use Rattle.aig_check_commands.specs.Goals.{fair_line, lasso_text, lassos_line, no_run_line};
 ghost use Rattle.aig_check_commands.specs.LivingParts.{MakesText, WritesMade, text_error};
 
-use crate::goals::Goal;
 use crate::justice::Justice;
 use crate::printing::write_line;
+use aig_answers::Goal;
 use aig_base::{Sink, Source, StreamFault, ToWrite};
 use aig_edits::{EditError, print_live, print_rounds};
 use aig_output::OutputBuffer;

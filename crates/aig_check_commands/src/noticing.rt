@@ -3,11 +3,12 @@
 ghost use Rattle.std.specs.Prelude.{◌≡◌, IfOk, IfSome, IsErr, IsNone, map, string_bytes};
 ghost use Rattle.aig_check_commands.specs.Noticing.{TellsBeside, is_within, regard_of};
 
-use crate::command::{Asked, Command, FileCommand, PairCommand, call_of};
+use crate::command::{Asked, Command, FileCommand, call_of};
 use crate::error::CheckError;
 use aig_base::MemoryError;
 use aig_command_line::{Ending, Headers, Regard, Teller, tell_of_files};
 use aig_edits::Constraints;
+use aig_subjects::Subject;
 
 /// Whether it is told that only runs are compared that constraints allow: not where the words say what constraints say.
 fn is_within(constraints: Constraints) -> bool
@@ -28,10 +29,10 @@ fn regard_of(asked: Asked) -> Regard
             _ => asked.justice.is_none(),
         },
         compares: match asked.command {
-            Command::Pair(
-                PairCommand::Equal { comparison, .. } | PairCommand::AlwaysEqual { comparison, .. },
-            ) => is_within(comparison.constraints),
-            Command::EqualBy { comparison, .. } => is_within(comparison.constraints),
+            Command::Check {
+                subject: Subject::Miter(comparison) | Subject::MiterCertified(comparison),
+                ..
+            } => is_within(comparison.constraints),
             _ => false,
         },
     }

@@ -1,4 +1,4 @@
-//! What the commands do with the bytes of two files, and of proofs about them.
+//! What a command does with the bytes of two files.
 
 ghost use Rattle.std.specs.Prelude.{◌≡◌, ◌++◌, ◌∷◌, []};
 ghost use Rattle.aig_answers.specs.Answers.{AreWrittenFrom};
@@ -7,66 +7,18 @@ ghost use Rattle.aig_circuit.specs.View.{lists_circuit};
 ghost use Rattle.aig_command_line.specs.Limits.{IsLimit};
 ghost use Rattle.aig_check_commands.specs.Pairs.{RunsPair};
 ghost use Rattle.aig_check_commands.specs.Printing.{WritesBase, WritesBehind, WritesBoth};
-ghost use Rattle.aig_check_commands.specs.Running.{nothing_fails, nothing_given};
 
 use crate::command::PairCommand;
-use crate::equal_lines::write_equal;
 use crate::error::CheckError;
 use crate::printing::{after_writing, tell_circuit};
-use crate::titles::{Question, Summed, Title, write_title};
-use aig_answers::{ClauseParts, Obligations, check_certified, check_equal, obligations_of};
+use crate::titles::{Summed, Title, Topic, write_title};
+use aig_answers::{ClauseParts, Obligations, obligations_of};
 use aig_base::{Sink, Source, StreamFault};
 use aig_circuit::CircuitView;
 use aig_command_line::{Origin, write_text};
 use aig_dimacs::write_circuit;
-use aig_edits::Comparison;
 use std::alloc::Global;
 use std::marker::Brand;
-
-/// Checks proofs that a certificate shows that a file's machine reaches no bad state at any step, and prints so.
-pub fn print_certified<R: Source, S: Source, P: Source, Q: Source, W: Sink>(
-    alloc: Global,
-    limit: usize,
-    optimize: bool,
-    file: &mut R,
-    certificate: &mut S,
-    base: &mut P,
-    step: &mut Q,
-    w: &mut W,
-) -> Result<(), CheckError>
-    requires { IsLimit limit }
-    ensures { let command = PairCommand.Certified optimize in
-        RunsPair R.left R.failed S.left S.failed P.left P.failed Q.left Q.failed W.held W.failed
-        command limit
-        file.old certificate.old base.old step.old w.old result
-        file.new certificate.new base.new step.new w.new }
-{
-    check_certified(alloc, file, certificate, limit, optimize, base, step)?;
-    after_writing(write_text(w, b"no bad state at any step"))
-}
-
-/// Checks a proof that two files' machines are equal at step `k`, and prints so. `comparison` says how registers with open start begin, and
-/// what constraints say.
-pub fn print_equal<R: Source, S: Source, P: Source, W: Sink>(
-    alloc: Global,
-    limit: usize,
-    comparison: Comparison,
-    k: usize,
-    optimize: bool,
-    file: &mut R,
-    other: &mut S,
-    proof: &mut P,
-    w: &mut W,
-) -> Result<(), CheckError>
-    requires { IsLimit limit }
-    ensures { let command = PairCommand.Equal comparison k optimize in
-        RunsPair R.left R.failed S.left S.failed P.left P.failed nothing_given nothing_fails W.held
-        W.failed command limit file.old other.old proof.old tt w.old result
-        file.new other.new proof.new tt w.new }
-{
-    check_equal(alloc, file, other, comparison, limit, k, optimize, proof)?;
-    after_writing(write_equal(w, comparison, k))
-}
 
 /// Writes the clauses of a circuit and further ones, after a line that names them. No list of them is made.
 fn write_part<W: Sink>(
@@ -135,15 +87,14 @@ fn print_obligations_of<R: Source + Drop, S: Source + Drop, A: Origin, B: Origin
     requires limit { IsLimit limit }
     ensures { let command = PairCommand.Obligations optimize in
         (rest : R) × (other : S)
-        × RunsPair R.left R.failed S.left S.failed nothing_given nothing_fails nothing_given
-        nothing_fails W.held W.failed command limit file certificate tt tt w.old result
-        rest other tt tt w.new }
+        × RunsPair R.left R.failed S.left S.failed W.held W.failed command limit file certificate
+        w.old result rest other w.new }
 {
     let mut first = Summed::<R, A>::new(file);
     let mut second = Summed::<S, B>::new(certificate);
     let asked = obligations_of(alloc, &mut first, &mut second, limit, optimize)?;
     let title = Title {
-        question: Question::Obligations,
+        topic: Topic::Obligations,
         optimize,
         sum: first.finish(),
         beside: Some(second.finish()),
@@ -151,7 +102,7 @@ fn print_obligations_of<R: Source + Drop, S: Source + Drop, A: Origin, B: Origin
     after_writing(write_obligations(w, &title, &asked, optimize))
 }
 
-/// Prints the clauses that the proofs of `print_certified` are of, behind their title: after the line `c base` those of which BASE is a
+/// Prints the clauses that the proofs of a certificate are of, behind their title: after the line `c base` those of which BASE is a
 /// proof, and after the line `c step` those of which STEP is one.
 pub fn print_obligations<R: Source + Drop, S: Source + Drop, W: Sink>(
     alloc: Global,
@@ -164,9 +115,8 @@ pub fn print_obligations<R: Source + Drop, S: Source + Drop, W: Sink>(
     requires { IsLimit limit }
     ensures { let command = PairCommand.Obligations optimize in
         (rest : R) × (other : S)
-        × RunsPair R.left R.failed S.left S.failed nothing_given nothing_fails nothing_given
-        nothing_fails W.held W.failed command limit file certificate tt tt w.old result
-        rest other tt tt w.new }
+        × RunsPair R.left R.failed S.left S.failed W.held W.failed command limit file certificate
+        w.old result rest other w.new }
 {
     print_obligations_of::<R, S, Brand, Brand, W>(alloc, limit, optimize, file, certificate, w)
 }

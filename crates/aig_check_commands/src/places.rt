@@ -9,17 +9,14 @@ ghost use Rattle.aig_check_commands.specs.CommandWords.{beside_of};
 
 use crate::command::Call;
 use crate::error::CheckError;
-use crate::goals::Goal;
 use crate::inputs::{Again, open_all};
 use crate::running::check_asked;
-use aig_answers::{
-    AnswerError, BoundedAnswerError, CertificateError, EqualityError, MiterError, PlanError,
-    Refused, SafetyError, Why,
-};
+use aig_answers::{BoundedAnswerError, Goal, GoalError, GoalFault, PlanError, Refused, Why};
 use aig_base::{MemoryError, Source, StreamFault};
 use aig_command_line::{Counted, Discarded, Measure, Origin, Place, Reopens};
 use aig_refutation::RefutationError;
 use aig_simulated::{Condition, ConditionError, SimulationError};
+use aig_subjects::Subject;
 use aig_witness::{ShowError, SolutionError, WitnessError};
 use std::alloc::Global;
 use std::marker::Brand;
@@ -45,23 +42,6 @@ fn is_same_witness(first: WitnessError, second: WitnessError) -> bool
     first == second
 }
 
-/// Whether two errors about two files are the same, and of a proof.
-fn is_same_certificate(first: CertificateError, second: CertificateError) -> bool
-    ensures { result ≡ true → first ≡ second }
-{
-    match (first, second) {
-        (
-            CertificateError::Query(AnswerError::Refutation(first)),
-            CertificateError::Query(AnswerError::Refutation(second)),
-        ) => is_same_refutation(first, second),
-        (
-            CertificateError::Window(AnswerError::Refutation(first)),
-            CertificateError::Window(AnswerError::Refutation(second)),
-        ) => is_same_refutation(first, second),
-        _ => false,
-    }
-}
-
 /// Whether two errors of a bounded check are the same, and of what is given beside the file.
 fn is_same_bounded(first: BoundedAnswerError, second: BoundedAnswerError) -> bool
     ensures { result ≡ true → first ≡ second }
@@ -77,18 +57,11 @@ fn is_same_bounded(first: BoundedAnswerError, second: BoundedAnswerError) -> boo
     }
 }
 
-/// Whether two errors of the proofs that a machine is safe are the same, and of a proof.
-fn is_same_safety(first: SafetyError, second: SafetyError) -> bool
+/// Whether two subjects are the same.
+fn is_same_subject(first: Subject, second: Subject) -> bool
     ensures { result ≡ true → first ≡ second }
 {
-    match (first, second) {
-        (SafetyError::Base(first), SafetyError::Base(second)) => is_same_bounded(first, second),
-        (
-            SafetyError::Step(AnswerError::Refutation(first)),
-            SafetyError::Step(AnswerError::Refutation(second)),
-        ) => is_same_refutation(first, second),
-        _ => false,
-    }
+    first == second
 }
 
 /// Whether two goals are the same.
@@ -117,6 +90,20 @@ fn is_same_plan(first: PlanError, second: PlanError) -> bool
                 },
             ),
         ) => first_index == second_index && is_same_refutation(first, second),
+        _ => false,
+    }
+}
+
+/// Whether two errors of goals are the same, and of a proof.
+fn is_same_shown(first: GoalError, second: GoalError) -> bool
+    ensures { result ≡ true → first ≡ second }
+{
+    match (first.fault, second.fault) {
+        (GoalFault::Plan(first_error), GoalFault::Plan(second_error)) => {
+            is_same_subject(first.subject, second.subject)
+                && is_same_goal(first.goal, second.goal)
+                && is_same_plan(first_error, second_error)
+        }
         _ => false,
     }
 }
@@ -154,26 +141,13 @@ fn is_same(first: CheckError, second: CheckError) -> bool
             CheckError::Show(ShowError::Witness(first)),
             CheckError::Show(ShowError::Witness(second)),
         ) => is_same_witness(first, second),
-        (CheckError::Certificate(first), CheckError::Certificate(second)) => {
-            is_same_certificate(first, second)
-        }
         (CheckError::Bounded(first), CheckError::Bounded(second)) => {
             is_same_bounded(first, second)
         }
-        (CheckError::Goal(first), CheckError::Goal(second)) => {
-            is_same_goal(first.goal, second.goal) && is_same_plan(first.error, second.error)
-        }
+        (CheckError::Goal(first), CheckError::Goal(second)) => is_same_shown(first, second),
         (CheckError::Simulation(first), CheckError::Simulation(second)) => {
             is_same_simulation(first, second)
         }
-        (
-            CheckError::Equality(EqualityError::Miter(first)),
-            CheckError::Equality(EqualityError::Miter(second)),
-        ) => is_same_safety(first, second),
-        (
-            CheckError::Miter(MiterError::Certificate(first)),
-            CheckError::Miter(MiterError::Certificate(second)),
-        ) => is_same_certificate(first, second),
         _ => false,
     }
 }

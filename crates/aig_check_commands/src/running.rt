@@ -4,7 +4,7 @@ ghost use Rattle.std.specs.Prelude.{◌≡◌, ◌∷◌, ◌+◌, ◌<◌, ◌^
 ghost use Rattle.std.specs.Borrow.{Array, LendsBoth, sem};
 ghost use Rattle.std.specs.List.{IsFirstAndRest};
 ghost use Rattle.aig_command_line.specs.Limits.{IsLimit};
-ghost use Rattle.aig_check_commands.specs.Acting.{RanOn};
+ghost use Rattle.aig_check_commands.specs.Acting.{RanAll, RanOn};
 ghost use Rattle.aig_check_commands.specs.Fits.{AreFor};
 ghost use Rattle.aig_check_commands.specs.Inputs.{Ran};
 ghost use Rattle.aig_check_commands.specs.Justice.{is_asked};
@@ -12,16 +12,15 @@ ghost use Rattle.aig_check_commands.specs.Living.{ChecksMade, IsOnText, PrintsMa
 ghost use Rattle.aig_check_commands.specs.Running.{Runs, nothing_fails, nothing_given};
 ghost use Rattle.aig_check_commands.specs.CommandWords.{beside_of, paths_of, prints, step_of};
 
-use crate::bounded::{print_bounded, print_witness_to};
+use crate::bounded::print_witness_to;
 use crate::checked::print_checked;
 use crate::command::{Asked, Command, FileCommand, PairCommand};
-use crate::compared::print_equal_by;
-use crate::equality::print_always_equal;
 use crate::error::CheckError;
-use crate::justice::Justice;
+use crate::justice::{Justice, file_subject, subject_of};
 use crate::living::{made_text, write_no_run};
-use crate::pairs::{print_certified, print_equal, print_obligations};
-use crate::printing::{after_writing, print_clauses, print_window, print_witness};
+use crate::pairs::print_obligations;
+use crate::printing::{after_writing, print_witness};
+use crate::questions::print_question;
 use crate::run::print_run;
 use crate::simulated::{print_obligation, print_simulated};
 use aig_base::{Sink, Source};
@@ -65,66 +64,10 @@ fn check_file<R: Source, S: Source, W: Sink>(
         FileCommand::WitnessTo { k, optimize } => {
             print_witness_to(alloc, limit, k, optimize, file, given, w)
         }
-        _ => unreachable!(),
     }
 }
 
-/// Runs a command on two files and on proofs about them.
-fn check_pair<R: Source, S: Source, W: Sink>(
-    alloc: Global,
-    limit: usize,
-    command: PairCommand,
-    file: &mut R,
-    inputs: &mut [S],
-    w: &mut W,
-) -> Result<(), CheckError>
-    requires limit { IsLimit limit }
-    requires checks { 0 < beside_of (Command.Pair command) }
-    requires fits { length inputs.old ≡ beside_of (Command.Pair command) + 1 }
-    requires small { step_of (Command.Pair command) < 2 ^ 32 }
-    ensures { Ran R.left R.failed S.left S.failed W.held W.failed limit (Command.Pair command)
-        file.old inputs.old w.old result file.new inputs.new w.new }
-{
-    let (other, proofs) = first_of(inputs);
-    let (base, proofs) = first_of(proofs);
-    match command {
-        PairCommand::Equal {
-            comparison,
-            k,
-            optimize,
-        } => { print_equal(alloc, limit, comparison, k, optimize, file, other, base, w) }
-        PairCommand::Certified { optimize } => {
-            let (step, _) = first_of(proofs);
-            print_certified(alloc, limit, optimize, file, other, base, step, w)
-        }
-        PairCommand::AlwaysEqual {
-            comparison,
-            k,
-            form,
-            base_optimize,
-            step_optimize,
-        } => {
-            let (step, _) = first_of(proofs);
-            print_always_equal(
-                alloc,
-                limit,
-                comparison,
-                k,
-                form,
-                base_optimize,
-                step_optimize,
-                file,
-                other,
-                base,
-                step,
-                w,
-            )
-        }
-        PairCommand::Obligations { .. } => unreachable!(),
-    }
-}
-
-/// Runs a command that checks what is given beside its files.
+/// Runs a command that checks what is given beside its files, but for proofs of a goal.
 fn check<R: Source, S: Source, W: Sink>(
     alloc: Global,
     limit: usize,
@@ -135,6 +78,7 @@ fn check<R: Source, S: Source, W: Sink>(
 ) -> Result<(), CheckError>
     requires limit { IsLimit limit }
     requires checks { 0 < beside_of command }
+    requires other { IsOnText command }
     requires fits { length inputs.old + 1 ≡ paths_of command + beside_of command }
     requires small { step_of command < 2 ^ 32 }
     ensures { Ran R.left R.failed S.left S.failed W.held W.failed limit command file.old
@@ -142,43 +86,6 @@ fn check<R: Source, S: Source, W: Sink>(
 {
     match command {
         Command::File(command) => check_file(alloc, limit, command, file, inputs, w),
-        Command::Pair(command) => check_pair(alloc, limit, command, file, inputs, w),
-        Command::Check {
-            goal,
-            base_optimize,
-            step_optimize,
-        } => print_checked(
-            alloc,
-            limit,
-            None,
-            goal,
-            base_optimize,
-            step_optimize,
-            file,
-            inputs,
-            w,
-        ),
-        Command::EqualBy {
-            comparison,
-            optimize,
-        } => {
-            let (other, others) = first_of(inputs);
-            let (certificate, others) = first_of(others);
-            let (base, others) = first_of(others);
-            let (step, _) = first_of(others);
-            print_equal_by(
-                alloc,
-                limit,
-                comparison,
-                optimize,
-                file,
-                other,
-                certificate,
-                base,
-                step,
-                w,
-            )
-        }
         Command::Simulated { optimize } => {
             let (witness, proofs) = first_of(inputs);
             let (reset, proofs) = first_of(proofs);
@@ -190,7 +97,7 @@ fn check<R: Source, S: Source, W: Sink>(
                 alloc, limit, optimize, file, witness, reset, transition, property, base, step, w,
             )
         }
-        Command::Obligation { .. } => unreachable!(),
+        _ => unreachable!(),
     }
 }
 
@@ -199,39 +106,13 @@ fn prints(command: Command) -> bool
     ensures { result ≡ prints command }
 {
     match command {
-        Command::File(
-            FileCommand::Clauses { .. } | FileCommand::Window { .. } | FileCommand::Bounded { .. },
-        ) => true,
-        Command::Pair(PairCommand::Obligations { .. }) | Command::Obligation { .. } => true,
+        Command::Print(_) | Command::Obligation { .. } => true,
+        Command::Pair(PairCommand::Obligations { .. }) => true,
         _ => false,
     }
 }
 
-/// Runs a command that prints clauses of a file.
-fn print_file<R: Source + Drop, W: Sink>(
-    alloc: Global,
-    limit: usize,
-    command: FileCommand,
-    file: R,
-    w: &mut W,
-) -> Result<(), CheckError>
-    requires limit { IsLimit limit }
-    requires prints { beside_of (Command.File command) ≡ 0 }
-    requires small { step_of (Command.File command) < 2 ^ 32 }
-    ensures { (rest : R) × Runs R.left R.failed nothing_given nothing_fails W.held W.failed command
-        limit file tt w.old result rest tt w.new }
-{
-    match command {
-        FileCommand::Clauses { k, optimize } => print_clauses(alloc, limit, k, optimize, file, w),
-        FileCommand::Window { k, form, optimize } => {
-            print_window(alloc, limit, k, form, optimize, file, w)
-        }
-        FileCommand::Bounded { k, optimize } => print_bounded(alloc, limit, k, optimize, file, w),
-        _ => unreachable!(),
-    }
-}
-
-/// Runs a command that prints clauses of its files.
+/// Runs a command that prints clauses of two files.
 fn print<R: Source + Drop, S: Source + Drop, W: Sink>(
     alloc: Global,
     limit: usize,
@@ -241,6 +122,7 @@ fn print<R: Source + Drop, S: Source + Drop, W: Sink>(
     w: &mut W,
 ) -> Result<(), CheckError>
     requires limit { IsLimit limit }
+    requires text { IsOnText command }
     requires prints { beside_of command ≡ 0 }
     requires fits { length inputs.items + 1 ≡ paths_of command + beside_of command }
     requires small { step_of command < 2 ^ 32 }
@@ -248,7 +130,6 @@ fn print<R: Source + Drop, S: Source + Drop, W: Sink>(
         limit command file inputs.items w.old result rest others w.new }
 {
     match (command, inputs.pop()) {
-        (Command::File(command), None) => print_file(alloc, limit, command, file, w),
         (Command::Pair(PairCommand::Obligations { optimize }), Some(certificate)) => {
             print_obligations(alloc, limit, optimize, file, certificate, w)
         }
@@ -302,6 +183,7 @@ fn print_made<R: Source, S: Source + Drop, W: Sink>(
     w: &mut W,
 ) -> Result<(), CheckError>
     requires limit { IsLimit limit }
+    requires text { IsOnText command }
     requires prints { beside_of command ≡ 0 }
     requires fits { length inputs.items + 1 ≡ paths_of command + beside_of command }
     requires small { step_of command < 2 ^ 32 }
@@ -312,6 +194,31 @@ fn print_made<R: Source, S: Source + Drop, W: Sink>(
     let text = made_text(alloc, limit, justice, file)?;
     let source = InMemory::new(text.as_slice());
     print(alloc, limit, command, source, inputs, w)
+}
+
+/// Runs a command on files, of which the first is FILE, that checks what is given beside FILE, but for proofs of a goal.
+fn check_beside<S: Source, W: Sink>(
+    alloc: Global,
+    limit: usize,
+    justice: Option<Justice>,
+    command: Command,
+    files: &mut [S],
+    w: &mut W,
+) -> Result<(), CheckError>
+    requires limit { IsLimit limit }
+    requires asked { IsTrue (is_asked justice command) }
+    requires other { IsOnText command }
+    requires checks { 0 < beside_of command }
+    requires fits { AreFor command files.old }
+    requires small { step_of command < 2 ^ 32 }
+    ensures { RanAll S.left S.failed W.held W.failed limit justice command files.old w.old result
+        files.new w.new }
+{
+    let (file, inputs) = first_of(files);
+    match justice {
+        None => check(alloc, limit, command, file, inputs, w),
+        Some(justice) => check_made(alloc, limit, justice, command, file, inputs, w),
+    }
 }
 
 /// Runs what is asked on files, of which the first is FILE, where that checks what is given beside them.
@@ -330,28 +237,28 @@ pub(crate) fn check_asked<S: Source, W: Sink>(
     ensures { RanOn S.left S.failed W.held W.failed limit asked files.old w.old result files.new
         w.new }
 {
-    let (file, inputs) = first_of(files);
-    match (asked.command, asked.justice) {
-        (
-            Command::Check {
-                goal,
-                base_optimize,
-                step_optimize,
-            },
-            justice,
-        ) => print_checked(
-            alloc,
-            limit,
-            justice,
+    match asked.command {
+        Command::Check {
+            subject,
             goal,
             base_optimize,
             step_optimize,
-            file,
-            inputs,
-            w,
-        ),
-        (command, None) => check(alloc, limit, command, file, inputs, w),
-        (command, Some(justice)) => check_made(alloc, limit, justice, command, file, inputs, w),
+        } => {
+            let subject = subject_of(asked.justice, subject);
+            let (files, proofs) = files.split_at_mut(subject.file_count());
+            print_checked(
+                alloc,
+                limit,
+                subject,
+                goal,
+                base_optimize,
+                step_optimize,
+                files,
+                proofs,
+                w,
+            )
+        }
+        command => check_beside(alloc, limit, asked.justice, command, files, w),
     }
 }
 
@@ -374,8 +281,13 @@ pub(crate) fn run<S: Source + Drop, W: Sink>(
         return check_asked(alloc, limit, asked, files.as_mut_slice(), w);
     }
     let mut file = files.remove(0);
-    match asked.justice {
-        None => print(alloc, limit, asked.command, file, files, w),
-        Some(justice) => print_made(alloc, limit, justice, asked.command, &mut file, files, w),
+    match (asked.command, asked.justice) {
+        (Command::Print(question), justice) => {
+            print_question(alloc, limit, file_subject(justice), question, file, w)
+        }
+        (command, None) => print(alloc, limit, command, file, files, w),
+        (command, Some(justice)) => {
+            print_made(alloc, limit, justice, command, &mut file, files, w)
+        }
     }
 }

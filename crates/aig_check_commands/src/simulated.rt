@@ -9,7 +9,7 @@ ghost use Rattle.std.specs.Prelude.{◌≡◌};
 
 use crate::error::CheckError;
 use crate::printing::{after_writing, tell_circuit};
-use crate::titles::{Question, Summed, Title, write_title};
+use crate::titles::{Summed, Title, Topic, write_title};
 use aig_base::{Sink, Source, StreamFault};
 use aig_command_line::{Origin, write_text};
 use aig_dimacs::write_circuit;
@@ -88,7 +88,7 @@ fn print_obligation_of<R: Source + Drop, S: Source + Drop, A: Origin, B: Origin,
     let mut second = Summed::<S, B>::new(witness);
     let asked = read_obligation(alloc, &mut first, &mut second, limit, optimize, condition)?;
     let title = Title {
-        question: Question::Obligation { condition },
+        topic: Topic::Obligation(condition),
         optimize,
         sum: first.finish(),
         beside: Some(second.finish()),

@@ -6,8 +6,7 @@ ghost use Rattle.aig_check_commands.specs.Subjects as specs;
 
 use crate::error::CheckError;
 use aig_answers::{
-    AnswerError, BoundedAnswerError, CertificateError, EqualityError, MiterError, PlanError,
-    SafetyError, Why,
+    AnswerError, BoundedAnswerError, CertificateError, GoalError, GoalFault, PlanError, Why,
 };
 use aig_bounded::BoundedError;
 use aig_command_line::Measure;
@@ -17,6 +16,7 @@ use aig_reader::{ReadError, Section};
 use aig_refutation::RefutationError;
 use aig_simulated::{Condition, ConditionError, SimulationError};
 use aig_simulation::{QuestionError, SharingError};
+use aig_subjects::SubjectError;
 use aig_witness::{LassoFault, ShowError, SolutionError, WitnessError, WitnessFault};
 
 /// What an error is about.
@@ -202,14 +202,14 @@ fn about_edit(error: EditError) -> About
     }
 }
 
-/// What an error of two files is about.
-fn about_pair(error: PairError) -> About
-    ensures { result ≡ specs.about_pair error }
+/// What an error of two files is about, of which the second is this one.
+fn about_pair(other: Subject, error: PairError) -> About
+    ensures { result ≡ specs.about_pair other error }
 {
     match error {
         PairError::Read(error) => about_read(Subject::File, error),
-        PairError::Other(error) => about_read(Subject::Other, error),
-        PairError::Misfit(_) => whole(Subject::Other),
+        PairError::Other(error) => about_read(other, error),
+        PairError::Misfit(_) => whole(other),
         PairError::TooLarge => whole(Subject::File),
         PairError::Memory | PairError::Write => NOTHING,
     }
@@ -220,7 +220,7 @@ fn about_certificate(error: CertificateError) -> About
     ensures { result ≡ specs.about_certificate error }
 {
     match error {
-        CertificateError::Pair(error) => about_pair(error),
+        CertificateError::Pair(error) => about_pair(Subject::Other, error),
         CertificateError::Query(error) => about_answer(Subject::Given, error),
         CertificateError::Window(error) => about_answer(Subject::Step, error),
     }
@@ -241,74 +241,67 @@ fn about_bounded(error: BoundedAnswerError) -> About
     }
 }
 
-/// What an error of the proofs that a machine is safe is about.
-fn about_safety(error: SafetyError) -> About
-    ensures { result ≡ specs.about_safety error }
+/// The proof of the question at this place of a plan: behind CERT, where that is of a miter.
+fn proof_of(subject: aig_subjects::Subject, index: usize) -> Subject
+    ensures { result ≡ specs.proof_of subject index }
 {
-    match error {
-        SafetyError::File(error) => about_answer(Subject::Given, error),
-        SafetyError::Base(error) => about_bounded(error),
-        SafetyError::Step(error) => about_answer(Subject::Step, error),
+    match subject {
+        aig_subjects::Subject::MiterCertified(_) if index == 0 => Subject::Step,
+        aig_subjects::Subject::MiterCertified(_) => Subject::Third,
+        _ => Subject::Nth(index),
     }
 }
 
 /// What an error of a question's proof is about.
-fn about_why(index: usize, why: Why) -> About
-    ensures { result ≡ specs.about_why index why }
+fn about_why(proof: Subject, why: Why) -> About
+    ensures { result ≡ specs.about_why proof why }
 {
     match why {
         Why::Clauses(BoundedError::TooLarge) => whole(Subject::File),
         Why::Clauses(BoundedError::Memory) => NOTHING,
-        Why::Refutation(error) => about_refutation(Subject::Nth(index), error),
+        Why::Refutation(error) => about_refutation(proof, error),
     }
 }
 
-/// What an error of a plan is about.
-fn about_plan(error: PlanError) -> About
-    ensures { result ≡ specs.about_plan error }
+/// What an error of the plan of a goal is about.
+fn about_plan(subject: aig_subjects::Subject, error: PlanError) -> About
+    ensures { result ≡ specs.about_plan subject error }
 {
     match error {
-        PlanError::Refused(refused) => about_why(refused.index, refused.why),
+        PlanError::Refused(refused) => { about_why(proof_of(subject, refused.index), refused.why) }
         _ => whole(Subject::File),
     }
 }
 
-/// What an error of the proofs that two machines are equal is about.
-fn about_equality(error: EqualityError) -> About
-    ensures { result ≡ specs.about_equality error }
+/// The certificate of a subject.
+fn certificate_of(subject: aig_subjects::Subject) -> Subject
+    ensures { result ≡ specs.certificate_of subject }
 {
-    match error {
-        EqualityError::Pair(error) => about_pair(error),
-        EqualityError::Miter(error) => about_safety(error),
+    match subject {
+        aig_subjects::Subject::MiterCertified(_) => Subject::Given,
+        _ => Subject::Other,
     }
 }
 
-/// What an error of the certificate of a miter is about, which is read after two files.
-fn about_certificate_of(error: PairError) -> About
-    ensures { result ≡ specs.about_certificate_of error }
+/// What an error of the files of a subject is about.
+fn about_subject(subject: aig_subjects::Subject, error: SubjectError) -> About
+    ensures { result ≡ specs.about_subject subject error }
 {
     match error {
-        PairError::Read(error) => about_read(Subject::File, error),
-        PairError::Other(error) => about_read(Subject::Given, error),
-        PairError::Misfit(_) => whole(Subject::Given),
-        PairError::TooLarge => whole(Subject::File),
-        PairError::Memory | PairError::Write => NOTHING,
+        SubjectError::File(error) => about_edit(error),
+        SubjectError::Pair(error) => about_pair(Subject::Other, error),
+        SubjectError::Certificate(error) => about_pair(certificate_of(subject), error),
     }
 }
 
-/// What an error of two files with a certificate of their miter is about.
-fn about_miter(error: MiterError) -> About
-    ensures { result ≡ specs.about_miter error }
+/// What an error of a goal is about.
+fn about_goal(error: GoalError) -> About
+    ensures { result ≡ specs.about_goal error }
 {
-    match error {
-        MiterError::Pair(error) => about_pair(error),
-        MiterError::Certificate(CertificateError::Pair(error)) => about_certificate_of(error),
-        MiterError::Certificate(CertificateError::Query(error)) => {
-            about_answer(Subject::Step, error)
-        }
-        MiterError::Certificate(CertificateError::Window(error)) => {
-            about_answer(Subject::Third, error)
-        }
+    match error.fault {
+        GoalFault::Subject(fault) => about_subject(error.subject, fault),
+        GoalFault::Memory => NOTHING,
+        GoalFault::Plan(fault) => about_plan(error.subject, fault),
     }
 }
 
@@ -385,10 +378,8 @@ pub(crate) fn about_error(error: CheckError) -> About
         CheckError::Show(error) => about_show(error),
         CheckError::Certificate(error) => about_certificate(error),
         CheckError::Bounded(error) => about_bounded(error),
-        CheckError::Goal(error) => about_plan(error.error),
-        CheckError::Equality(error) => about_equality(error),
+        CheckError::Goal(error) => about_goal(error),
         CheckError::Lasso(fault) => about_lasso(fault),
-        CheckError::Miter(error) => about_miter(error),
         CheckError::Unmade(error) => about_edit(error),
         CheckError::Simulation(error) => about_simulation(error),
     }

@@ -4,4 +4,4 @@ mod summed;
 mod title;
 
 pub use summed::Summed;
-pub use title::{Question, Title, write_title};
+pub use title::{Title, Topic, write_title};

@@ -1,8 +1,8 @@
 -- Lists of pairs that say the same of each leaf.
-use Rattle.aig_simulation.proofs.Words.{◌≡◌, ℕ, Option, Some, None, List, ◌++◌, map, get_or, not, inl, inr, refl, sym, ap, subst, ◌∙◌, All, All-append, All-same, All-weaker, Contains, Contains-append_left, Contains-append_right, false≢true, map-append, same_Some, is_none, is_in-there, model_leaf, Sharing, IsFor, IsLiteralOf, IsNamed, Names, Shares, SharesByName, sharing_prefix}
+use Rattle.aig_simulation.proofs.Words.{All, All-append, All-contains, All-same, All-weaker, Contains, Contains-append_left, Contains-append_right, IsFor, IsLiteralOf, IsNamed, List, Names, None, Option, Shares, SharesByName, Sharing, Some, ap, false≢true, inl, inr, is_in-there, is_none, map, map-append, model_leaf, not, refl, same_Some, sharing_prefix, subst, sym, ℕ, ◌++◌, ◌∙◌, ◌≡◌}
 use Rattle.aig_circuit.specs.Circuit.{Circuit, latch_leaves}
-use Rattle.aig_simulation.proofs.Exactly.{model_leaf-found, stands_where_shared}
 use Rattle.aig_simulation.proofs.Adding.{form_of}
+use Rattle.aig_simulation.proofs.First.{first_of-found, model_leaf-first, stands_where_shared}
 use Rattle.aig_simulation.proofs.Saying.{one_leaf}
 
 -- what follows the prefix
@@ -61,10 +61,11 @@ module _ (node : ℕ → Option ℕ) (model witness : Circuit) (t : Sharing)
   stands : (s : Sharing) → SharesByName node model witness s → (n m : ℕ) → model_leaf s n ≡ Some m
       → IsThere (m, n)
   stands s is_s n m is =
-      let found = model_leaf-found s n m is in
+      let found = first_of-found (λ (p : ℕ × ℕ). p.1) (λ p. p.0) s n m
+      (sym (model_leaf-first s n) ∙ is) in
       subst (λ k. IsThere (k, n)) found.3
-      (subst (λ k. IsThere ((get_or s found.0 (0, 0)).0, k)) found.2
-      (there s is_s found.0 (0, 0) found.1))
+      (subst (λ k. IsThere (found.0.0, k)) found.2
+      (All-contains IsThere s found.0 (there s is_s) found.1))
 
 -- it isn't none where the leaf is among those of the list
 not_none : (t : Sharing) (n : ℕ) → Contains (leaves_in t) n → model_leaf t n ≡ None → ⊥

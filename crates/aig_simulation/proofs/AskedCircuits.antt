@@ -1,7 +1,10 @@
 -- The circuit of a question, and what it means that all are never true.
-use Rattle.aig_simulation.proofs.Words.{All, All-cons, All-nil, All-same, All-weaker, Bool, Contains, IfSome, IsTrue, List, [], ap, append-nil, arith, contains_key, false, false≢true, get-empty, is_some, list_any, nat_cmp, refl, subst, sym, true, ℕ, ◌||◌, ◌↔◌, ◌∙◌, ◌∷◌, ◌≡◌, ◌≤◌, AigEdge, AigLatch, AigNode, AreNodes, Circuit, IsCircuit, IsInRange, IsLatch, IsLeaf, edge_value, IsCircuitSafeAt, following-are, following-distinct, following-have, AsksWhether, made_in, with_bad, AsksIf, Holds, IsNeverTrue, CanStart, IsCertificate, IsSharing, Sharing, Condition}
+use Rattle.aig_simulation.proofs.Words.{AigEdge, AigLatch, AigNode, All, All-cons, All-nil, All-same, All-weaker, AreCircuits, AreNodes, AsksIf, Bool, CanShareLeaves, CanStart, Circuit, Condition, Contains, False, Holds, IfSome, IsCertificate, IsCircuit, IsCircuit-only_false, IsCircuitSafeAt, IsInRange, IsLatch, IsLeaf, IsNeverTrue, IsSharing, IsTrue, List, Made, Sharing, [], ap, append-nil, arith, asked_of, contains_key, edge_value, false, false≢true, following-are, following-distinct, following-have, get-empty, is_some, list_any, made_in, model_leaf, nat_cmp, question_of, refl, subst, sym, true, with_bad, with_node, ℕ, ◌||◌, ◌↔◌, ◌∙◌, ◌∷◌, ◌≡◌, ◌≤◌}
 use Rattle.aig_unroll.specs.Places.{leaves_after}
 use Rattle.aig_simulation.specs.declared.condition.Condition.TheVariants.{Base, Property, Reset, Step, Transition}
+use Rattle.aig_simulation.proofs.Deciding.{decided}
+use Rattle.aig_simulation.proofs.Reading.{AsksWhether}
+use Rattle.aig_simulation.proofs.Tracking.{safe}
 
 is_circuit : (nodes : List AigNode) (bad : AigEdge) → AreNodes nodes → IsInRange nodes bad
     → IsCircuit (with_bad (made_in nodes bad))
@@ -27,17 +30,27 @@ is_circuit nodes bad are there = record {
     nothing_named n h = absurd (false≢true (sym (ap is_some (get-empty nat_cmp n)) ∙ h))
 
 -- it asks what its edge does
-pub asks_if : (claim : Type 0) (old nodes : List AigNode) (bad : AigEdge)
-    → AsksWhether claim old nodes bad → AsksIf claim (with_bad (made_in nodes bad))
-asks_if claim old nodes bad asks = record {
-  circuit = is_circuit nodes bad asks.grows.sound asks.there;
+pub asks_if : (claim : Type 0) (made : Made) → AsksWhether claim made
+    → AsksIf claim (with_bad made)
+asks_if claim made asks = record {
+  circuit = is_circuit made.nodes made.edge asks.sound asks.there;
   closed = λ n leaf.
-      subst (λ l. Contains l n) (sym (append-nil (leaves_after 0 nodes)))
-      (following-have nodes asks.grows.sound 0 n leaf (omega arith));
-  edge = bad;
+      subst (λ l. Contains l n) (sym (append-nil (leaves_after 0 made.nodes)))
+      (following-have made.nodes asks.sound 0 n leaf (omega arith));
+  edge = made.edge;
   rest = refl;
   asks = asks.asks;
 }
+
+-- so does each condition's question
+pub question_asks : (condition : Condition) (shared : Sharing) (model witness : Circuit)
+    → AreCircuits condition model witness → CanShareLeaves shared model witness
+    → AsksIf (Holds condition shared model witness)
+    (question_of condition (model_leaf shared) model witness)
+question_asks condition shared model witness are can =
+    asks_if (Holds condition shared model witness)
+    (asked_of condition (with_node [] False) (model_leaf shared) model witness)
+    (decided condition shared model witness are can (with_node [] False) IsCircuit-only_false.nodes)
 
 -- a claim for whose question no values make the edge true
 abbrev pub IsShown : Type 0 → Type 0

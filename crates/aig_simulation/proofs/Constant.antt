@@ -1,6 +1,7 @@
 -- Constant resets stand in an order.
-use Rattle.aig_simulation.proofs.Words.{◌≡◌, ◌≢◌, ℕ, suc, ◌<◌, Bool, false, Option, Some, None, IfSome, List, [], ◌∷◌, length, get_or, sym, ap, ◌∙◌, arith, All, AllPairs, All-filter, All-tail, AllPairs-filter, Contains, Contains-get_or, filter_passes, get_or-map, length-map, AigEdge, AigLatch, Circuit, HasConstantInit, IsCircuit, edge_value, inverted_if, latch_leaves, node_value, node_value-false, Contains-map_back, own_among, Sharing, IsInOrder, IsIndependent, IsStratified}
-use Rattle.aig_simulation.proofs.Deciding.{filter_each, is_own, owns, passes}
+use Rattle.aig_simulation.proofs.Words.{AigEdge, AigLatch, All, All-filter, All-tail, AllPairs, AllPairs-filter, Bool, Circuit, Contains, Contains-get_or, Contains-map_back, HasConstantInit, IfSome, IsCircuit, IsInOrder, IsIndependent, IsStratified, List, None, Option, Sharing, Some, [], ap, arith, edge_value, false, filter_passes, get_or, inverted_if, latch_leaves, node_value, node_value-false, own_among, suc, sym, ℕ, ◌∙◌, ◌∷◌, ◌≡◌, ◌≢◌}
+use Rattle.aig_simulation.proofs.First.{apart_from_map}
+use Rattle.aig_simulation.proofs.Owned.{filter_each, is_own, owns, passes}
 
 -- the latches have different leaves
 abbrev pub AreApart : List AigLatch → Type 0
@@ -36,15 +37,7 @@ module _ (c : Circuit) (is : IsCircuit c) where
 
 -- the latches of a circuit have different leaves
 pub latches_apart : (c : Circuit) → IsCircuit c → AreApart c.latchs
-latches_apart c is i j d lt less =
-    let first : i < length c.latchs = omega (arith, lt, less) in
-    let count : length (latch_leaves c.latchs) ≡ length c.latchs =
-    length-map c.latchs (λ (l : AigLatch). l.input) in
-    let differ = is.latchs_distinct i j d.input lt (omega (arith, less, count)) in
-    λ same. differ
-    (get_or-map (λ (l : AigLatch). l.input) c.latchs i d d.input first
-    ∙ same
-    ∙ sym (get_or-map (λ (l : AigLatch). l.input) c.latchs j d d.input less))
+latches_apart c is = apart_from_map (λ (l : AigLatch). l.input) c.latchs is.latchs_distinct
 
 -- so have those of its own
 pub own_apart : (shared : Sharing) (c : Circuit) → IsCircuit c

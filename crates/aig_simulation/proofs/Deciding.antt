@@ -1,385 +1,468 @@
 -- What the edge of each question decides: that it is never true is that the condition holds.
-use Rattle.aig_simulation.proofs.Words.{◌≡◌, ℕ, ◌<◌, ◌≤◌, Bool, true, false, not, cond, List, [], ◌∷◌, length, map, filter, get_or, refl, sym, ap, subst, ◌∙◌, arith, All, All-cons, All-filter, All-head, All-nil, All-tail, false≢true, filter_passes, AigEdge, AigLatch, AigNode, Leaf, AreNodes, Circuit, Grows, IsCircuit, IsInRange, IsInitial, IsLatch, IsLeaf, edge_value, is_in, Grows-then, kind_at-within, IsGoodState, MeetsConstraints, is_in-back, is_in-there, image_at, AsksWhether, IsFalseWhere, IsCopy, IsFrame, own_among, read, CanShareLeaves, Agrees, AllOwn, BaseHolds, IsMove, IsOwn, TakesNext, PropertyHolds, ResetHolds, Sharing, Starts, StepHolds, TransitionHolds}
+use Rattle.aig_simulation.proofs.Words.{Agrees, AigEdge, AigLatch, AigNode, All, All-filter, All-nil, All-same, AllOwn, AreCircuits, AreNodes, Base, BaseHolds, Bool, CanShareLeaves, Circuit, Condition, Frame, Grows, Grows-then, Holds, IsCircuit, IsGoodState, IsInitial, IsLatch, IsLeaf, IsMove, Leaf, List, MeetsConstraints, Property, PropertyHolds, Reset, ResetHolds, Sharing, Starts, Step, StepHolds, TakesNext, Transition, TransitionHolds, [], ap, arith, asked_of, beside, constraint_claims, copy_after, edge_value, false, get_or, good_claims, image_at, image_in, kind_at-within, length, make_base, make_property, make_reset, make_step, make_transition, model_leaf, move_claims, moved, moved_beside, no_leaf, own_among, own_latches, refl, start_claims, subst, sym, ℕ, ◌++◌, ◌<◌, ◌∙◌, ◌≡◌}
 use Rattle.aig_simulation.proofs.Copied.{same_below}
-use Rattle.aig_simulation.proofs.Giving.{copy_stays}
-use Rattle.aig_simulation.proofs.Reading.{all_start_same, constraints_same, good_same, moves_same, value_same}
-
--- ---- own latches
-
--- what holds of what a test keeps holds of each entry that passes
-pub filter_each : {X : Type 0} (test : X → Bool) (P : X → Type 0) (xs : List X) → All P (filter
-    test xs)
-    → All (λ x. test x ≡ true → P x) xs
-filter_each test P [] all = All-nil (λ x. test x ≡ true → P x)
-filter_each {X} test P (x ∷ xs) all = by (test x) refl all (filter_each test P xs)
-  where
-    Q : X → Type 0
-    Q y = test y ≡ true → P y
-
-    by : (b : Bool) → test x ≡ b → All P (cond b (x ∷ filter test xs) (filter test xs))
-        → (All P (filter test xs) → All Q xs) → All Q (x ∷ xs)
-    by true is all later =
-        All-cons Q x xs (λ h. All-head P x (filter test xs) all)
-        (later (All-tail P x (filter test xs) all))
-    by false is all later =
-        All-cons Q x xs (λ h. absurd (false≢true (sym is ∙ h))) (later all)
-
-module _ (shared : Sharing) where
-  abbrev pub is_own : AigLatch → Bool
-  is_own latch = not (is_in (map (λ (p : ℕ × ℕ). p.1) shared) latch.input)
-
-  pub owns : (latch : AigLatch) → is_own latch ≡ true → IsOwn shared latch.input
-  owns latch passes has =
-      false≢true
-      (sym (ap not (is_in-there (map (λ (p : ℕ × ℕ). p.1) shared) latch.input has)) ∙ passes)
-
-  pub passes : (latch : AigLatch) → IsOwn shared latch.input → is_own latch ≡ true
-  passes latch own = by (is_in (map (λ (p : ℕ × ℕ). p.1) shared) latch.input) refl
-    where
-      by : (b : Bool) → is_in (map (λ (p : ℕ × ℕ). p.1) shared) latch.input ≡ b
-          → is_own latch ≡ true
-      by true is =
-          absurd (own (is_in-back (map (λ (p : ℕ × ℕ). p.1) shared) latch.input is))
-      by false is = ap not is
-
-  -- what holds of each own latch, and of all of them
-  pub own_each : (P : AigLatch → Type 0) (latchs : List AigLatch) → All P (own_among shared latchs)
-      → AllOwn shared P latchs
-  own_each P latchs all k d h own =
-      filter_each is_own P latchs all k d h (passes (get_or latchs k d) own)
-
-  pub own_all : (P : AigLatch → Type 0) (latchs : List AigLatch) → AllOwn shared P latchs
-      → All P (own_among shared latchs)
-  own_all P latchs each k d h =
-      All-filter is_own (λ latch. IsOwn shared latch.input → P latch) latchs each k d h
-      (owns (get_or (own_among shared latchs) k d) (filter_passes is_own latchs k d h))
+use Rattle.aig_simulation.proofs.Exactly.{own_is}
+use Rattle.aig_simulation.proofs.Framed.{IsCopy, IsFrame, beside_frame, copy_stays, first_frame, moved_beside_frame, moved_frame, read}
+use Rattle.aig_simulation.proofs.Owned.{is_own, own_all, own_each}
+use Rattle.aig_simulation.proofs.Reading.{AsksWhether, Says, all_start_same, asks_whether, constraints_same, constraints_say, good_same, good_says, moves_same, moves_say, says_both, starts_say, value_same}
 
 -- ---- values that go on
-
--- what was read is still read, where the first values stay
-carried : (old new : List AigNode) → AreNodes old → Grows old new → (images : List AigEdge)
-    (v w : ℕ → Bool) → ((n : ℕ) → n < length old → w n ≡ v n) → (n : ℕ)
-    → IsInRange old (image_at images n) → read new images w n ≡ read old images v n
-carried old new are grows images v w first n there =
-    grows.values w (image_at images n) there ∙ same_below old are w v first (image_at images n)
 
 pub carry2 : {A B : Type 0} (P : A → B → Type 0) (a a' : A) (b b' : B) → a ≡ a' → b ≡ b' → P a b
     → P a' b'
 carry2 P a a' b b' first second p = subst (P a') second (subst (λ x. P x b) first p)
 
--- no entries
-nothing : {X : Type 0} (P : X → Type 0) → All P []
-nothing P k d h = absurd (omega (arith, h))
+-- states that are the same on leaves
+abbrev Same : Circuit → (ℕ → Bool) → (ℕ → Bool) → Type 0
+Same c x y = (n : ℕ) → IsLeaf c.nodes n → x n ≡ y n
 
--- a copy that shares nothing
-abbrev pub IsFirstFrame : Circuit → List AigNode → List AigNode → List AigEdge → Type 0
-IsFirstFrame c old new images = IsFrame c [] [] [] [] old new images
+turned : (c : Circuit) (x y : ℕ → Bool) → Same c x y → Same c y x
+turned c x y same n leaf = sym (same n leaf)
 
-first_met : (c : Circuit) (old new : List AigNode) (images : List AigEdge)
-    → IsFirstFrame c old new images → (x : ℕ → Bool)
-    → (w : ℕ → Bool) × ((n : ℕ) → IsLeaf c.nodes n → read new images w n ≡ x n)
-first_met c old new images frame x =
-    let w = frame.each (λ _. false) x (nothing _) (nothing _) in
+-- what was read is still read, where the first values stay
+carried : (c : Circuit) (old new : List AigNode) (images : List AigEdge) → AreNodes old
+    → Grows old new → IsCopy c.nodes old images → (v w : ℕ → Bool)
+    → ((n : ℕ) → n < length old → w n ≡ v n) → Same c (read new images w) (read old images v)
+carried c old new images are grows copy v w first n leaf =
+    grows.values w (image_at images n) (copy.there n (kind_at-within c.nodes n Leaf leaf))
+    ∙ same_below old are w v first (image_at images n)
+
+first_met : (c : Circuit) (old : List AigNode) (f : Frame) → IsFrame c [] [] [] [] old f
+    → (x : ℕ → Bool) → (w : ℕ → Bool) × Same c (read f.nodes f.images w) x
+first_met c old f frame x =
+    let w = frame.each (λ _. false) x (All-nil _) (All-nil _) in
     (w.0, w.2)
+
+-- latches of a copy after a step move
+frame_moves : (c : Circuit) → IsCircuit c → (shared : Sharing) (before others : List AigEdge)
+    (old : List AigNode) (f : Frame) → IsFrame c c.latchs before shared others old f
+    → IsCopy c.nodes f.nodes before → (z : ℕ → Bool)
+    → AllOwn shared (TakesNext c (read f.nodes before z) (read f.nodes f.images z)) c.latchs
+frame_moves c is shared before others old f frame copy z k d h own =
+    ap (edge_value f.nodes z) (frame.moves k d h own)
+    ∙ copy.value z (get_or c.latchs k d).next (is.latchs k d h).next
+
+-- and those of one that shares nothing all move
+all_move : (c : Circuit) → IsCircuit c → (before : List AigEdge) (old : List AigNode) (f : Frame)
+    → IsFrame c c.latchs before [] [] old f → IsCopy c.nodes f.nodes before → (z : ℕ → Bool)
+    → IsMove c (read f.nodes before z) (read f.nodes f.images z)
+all_move c is before old f frame copy z k d h =
+    frame_moves c is [] before [] old f frame copy z k d h (λ has. absurd (omega (arith, has.1)))
+
+-- the next values of latches are those of the state that is read
+next_read : (c : Circuit) → IsCircuit c → (old : List AigNode) (before : List AigEdge)
+    → IsCopy c.nodes old before → (v y z : ℕ → Bool) → Same c (read old before v) y → (l : AigLatch)
+    → IsLatch c.nodes l → TakesNext c y z l
+    → edge_value old v (image_in before l.next) ≡ z l.input
+next_read c is old before copy v y z same l is_latch moves =
+    copy.value v l.next is_latch.next
+    ∙ value_same c is (read old before v) y same l.next
+    ∙ sym moves
 
 -- ---- both circuits
 
 module _ (shared : Sharing) (model witness : Circuit) (is_model : IsCircuit model)
     (is_witness : IsCircuit witness) (can : CanShareLeaves shared model witness)
-    (old mid base : List AigNode) (first second : List AigEdge)
-    (frame_x : IsFirstFrame model old mid first)
-    (frame_y : IsFrame witness [] [] shared first mid base second) where
-  pub copy_x : IsCopy model.nodes base first
-  copy_x = copy_stays model.nodes mid base first is_model.nodes frame_y.grows frame_x.copy
+    (old : List AigNode) (are : AreNodes old) (x : Frame) (is_x : x ≡ copy_after old model no_leaf)
+  where
+    pub frame_x : IsFrame model [] [] [] [] old x
+    frame_x = first_frame model is_model old are x is_x
 
-  agrees : (z : ℕ → Bool) → Agrees shared (read base first z) (read base second z)
-  agrees z k d h = ap (edge_value base z) (sym (frame_y.shares k d h))
+    module _ (y : Frame) (is_y : y ≡ beside (model_leaf shared) witness x) where
+      pub frame_y : IsFrame witness [] [] shared x.images x.nodes y
+      frame_y =
+          subst (IsFrame witness [] [] shared x.images x.nodes) (sym is_y)
+          (beside_frame shared model witness can x frame_x.copy is_witness frame_x.grows.sound)
 
-  -- states that agree on the shared leaves are read off some values
-  record Met (x y : ℕ → Bool) : Type 0 where
-    at : ℕ → Bool
-    of_model : (n : ℕ) → IsLeaf model.nodes n → x n ≡ read base first at n
-    of_witness : (n : ℕ) → IsLeaf witness.nodes n → y n ≡ read base second at n
+      pub copy_x : IsCopy model.nodes y.nodes x.images
+      copy_x =
+          copy_stays model.nodes x.nodes y.nodes x.images is_model.nodes frame_y.grows frame_x.copy
 
-  met : (x y : ℕ → Bool) → Agrees shared x y → Met x y
-  met x y same =
-      let v = first_met model old mid first frame_x x in
-      let w = frame_y.each v.0 y
-      (λ k d h. v.1 (get_or shared k d).0 (can.model_leaves k d h) ∙ same k d h) (nothing _) in
-      record {
-        at = w.0;
+      agrees : (z : ℕ → Bool) → Agrees shared (read y.nodes x.images z) (read y.nodes y.images z)
+      agrees z k d h = ap (edge_value y.nodes z) (sym (frame_y.shares k d h))
+
+      -- states that agree on the shared leaves are read off some values
+      record Met (s t : ℕ → Bool) : Type 0 where
+        at : ℕ → Bool
+        of_model : Same model (read y.nodes x.images at) s
+        of_witness : Same witness (read y.nodes y.images at) t
+
+      met_at : (s t v w : ℕ → Bool) → Same model (read x.nodes x.images v) s
+          → ((n : ℕ) → n < length x.nodes → w n ≡ v n) → Same witness (read y.nodes y.images w) t
+          → Met s t
+      met_at s t v w first stays second = record {
+        at = w;
         of_model = λ n leaf.
-            sym (carried mid base frame_x.grows.sound frame_y.grows first v.0 w.0 w.1 n
-            (frame_x.copy.there n (kind_at-within model.nodes n Leaf leaf))
-            ∙ v.1 n leaf);
-        of_witness = λ n leaf. sym (w.2 n leaf);
+            carried model x.nodes y.nodes x.images frame_x.grows.sound frame_y.grows frame_x.copy
+            v w
+            stays n leaf
+            ∙ first n leaf;
+        of_witness = second;
       }
 
-  module _ (new : List AigNode) (e : AigEdge) where
-    pub reset_decided : IsFalseWhere base new e
-        (λ z. (IsInitial model (read base first z) × MeetsConstraints model (read base first z))
-        × All (Starts witness (read base second z)) (own_among shared witness.latchs)
-        → IsInitial witness (read base second z) × MeetsConstraints witness (read base second z))
-        → AsksWhether (ResetHolds shared model witness) old new e
-    reset_decided is = record {
-      grows = Grows-then old base new (Grows-then old mid base frame_x.grows frame_y.grows)
-          is.grows;
-      there = is.there;
-      asks = (
-        λ holds z. (is.holds z).1
-            (λ p. holds (read base first z) (read base second z) (agrees z) p.0.0 p.0.1
-            (own_each shared (Starts witness (read base second z)) witness.latchs p.1)),
-        λ never x y same initial constraints own.
-            let m = met x y same in
-            let x' = read base first m.at in
-            let y' = read base second m.at in
-            let started = all_start_same witness is_witness y y' m.of_witness
-            (own_among shared witness.latchs)
+      met : (s t : ℕ → Bool) → Agrees shared s t → Met s t
+      met s t same =
+          let v = first_met model old x frame_x s in
+          let w = frame_y.each v.0 t
+          (λ k d h. v.1 (get_or shared k d).0 (can.model_leaves k d h) ∙ same k d h) (All-nil _) in
+          met_at s t v.0 w.0 v.1 w.1 w.2
+
+      module _ (own : List AigLatch) (same_own : own ≡ own_among shared witness.latchs) where
+        own_latchs : All (IsLatch witness.nodes) own
+        own_latchs =
+            All-same (IsLatch witness.nodes) own (own_among shared witness.latchs) same_own
             (All-filter (is_own shared) (IsLatch witness.nodes) witness.latchs is_witness.latchs)
-            (own_all shared (Starts witness y) witness.latchs own) in
-            let shown = (is.holds m.at).0 (never m.at) (
-              (
-                all_start_same model is_model x x' m.of_model model.latchs is_model.latchs initial,
-                constraints_same model is_model x x' m.of_model constraints,
-              ),
-              started,
-            ) in
-            let back : (n : ℕ) → IsLeaf witness.nodes n → y' n ≡ y n = λ n leaf. sym (m.of_witness
-            n leaf)
-            in (
-              all_start_same witness is_witness y' y back witness.latchs is_witness.latchs shown.0,
-              constraints_same witness is_witness y' y back shown.1,
-            ),
-      );
-    }
 
-    pub property_decided : IsFalseWhere base new e
-        (λ z. MeetsConstraints model (read base first z)
-        × MeetsConstraints witness (read base second z) × IsGoodState witness (read base second z)
-        → IsGoodState model (read base first z))
-        → AsksWhether (PropertyHolds shared model witness) old new e
-    property_decided is = record {
-      grows = Grows-then old base new (Grows-then old mid base frame_x.grows frame_y.grows)
-          is.grows;
-      there = is.there;
-      asks = (
-        λ holds z. (is.holds z).1
-            (λ p. holds (read base first z) (read base second z) (agrees z) p.0 p.1 p.2),
-        λ never x y same of_model of_witness good.
-            let m = met x y same in
-            let x' = read base first m.at in
-            let y' = read base second m.at in
-            let shown = (is.holds m.at).0 (never m.at) (
-              constraints_same model is_model x x' m.of_model of_model,
-              constraints_same witness is_witness y y' m.of_witness of_witness,
-              good_same witness is_witness y y' m.of_witness good,
-            ) in
-            good_same model is_model x' x (λ n leaf. sym (m.of_model n leaf)) shown,
-      );
-    }
+        pub reset_premises : Says y.nodes
+            (start_claims model.latchs x.images ++ constraint_claims model x.images
+            ++ start_claims own y.images)
+            (λ z. (IsInitial model (read y.nodes x.images z)
+            × MeetsConstraints model (read y.nodes x.images z))
+            × All (Starts witness (read y.nodes y.images z)) own)
+        reset_premises =
+            says_both y.nodes _ (start_claims own y.images) _ _
+            (says_both y.nodes (start_claims model.latchs x.images)
+            (constraint_claims model x.images)
+            _ _ (starts_say model is_model y.nodes x.images copy_x model.latchs is_model.latchs)
+            (constraints_say model is_model y.nodes x.images copy_x))
+            (starts_say witness is_witness y.nodes y.images frame_y.copy own own_latchs)
 
-  -- ---- and the states after a step
+        pub reset_conclusions : Says y.nodes
+            (start_claims witness.latchs y.images ++ constraint_claims witness y.images)
+            (λ z. IsInitial witness (read y.nodes y.images z)
+            × MeetsConstraints witness (read y.nodes y.images z))
+        reset_conclusions =
+            says_both y.nodes (start_claims witness.latchs y.images)
+            (constraint_claims witness y.images) _ _
+            (starts_say witness is_witness y.nodes y.images frame_y.copy witness.latchs
+            is_witness.latchs)
+            (constraints_say witness is_witness y.nodes y.images frame_y.copy)
 
-  module _ (far last : List AigNode) (third fourth : List AigEdge)
-      (frame_next : IsFrame model model.latchs first [] [] base far third)
-      (frame_z : IsFrame witness witness.latchs second shared third far last fourth) where
-    grown : Grows base last
-    grown = Grows-then base far last frame_next.grows frame_z.grows
+        pub reset_decided : AsksWhether (ResetHolds shared model witness)
+            (make_reset own model witness x y)
+        reset_decided =
+            asks_whether y.nodes frame_y.grows.sound _ _ _ _ reset_premises reset_conclusions _ (
+              λ holds z p. holds (read y.nodes x.images z) (read y.nodes y.images z)
+                  (agrees z) p.0.0
+                  p.0.1
+                  (own_each shared (Starts witness (read y.nodes y.images z)) witness.latchs
+                  (All-same (Starts witness (read y.nodes y.images z))
+                  (own_among shared witness.latchs)
+                  own (sym same_own) p.1)),
+              λ never s t same initial constraints starts.
+                  let m = met s t same in
+                  let s' = read y.nodes x.images m.at in
+                  let t' = read y.nodes y.images m.at in
+                  let to_s = turned model s' s m.of_model in
+                  let to_t = turned witness t' t m.of_witness in
+                  let shown = never m.at (
+                    (
+                      all_start_same model is_model s s' to_s model.latchs is_model.latchs initial,
+                      constraints_same model is_model s s' to_s constraints,
+                    ),
+                    all_start_same witness is_witness t t' to_t own own_latchs
+                        (All-same (Starts witness t) own (own_among shared witness.latchs) same_own
+                        (own_all shared (Starts witness t) witness.latchs starts)),
+                  ) in (
+                    all_start_same witness is_witness t' t m.of_witness witness.latchs
+                        is_witness.latchs shown.0,
+                    constraints_same witness is_witness t' t m.of_witness shown.1,
+                  ),
+            )
 
-    pub copy_first : IsCopy model.nodes last first
-    copy_first = copy_stays model.nodes base last first is_model.nodes grown copy_x
+      pub property_premises : Says y.nodes
+          (constraint_claims model x.images ++ constraint_claims witness y.images
+          ++ good_claims witness y.images)
+          (λ z. (MeetsConstraints model (read y.nodes x.images z)
+          × MeetsConstraints witness (read y.nodes y.images z))
+          × IsGoodState witness (read y.nodes y.images z))
+      property_premises =
+          says_both y.nodes _ (good_claims witness y.images) _ _
+          (says_both y.nodes (constraint_claims model x.images) (constraint_claims witness y.images)
+          _ _ (constraints_say model is_model y.nodes x.images copy_x)
+          (constraints_say witness is_witness y.nodes y.images frame_y.copy))
+          (good_says witness is_witness y.nodes y.images frame_y.copy)
 
-    pub copy_second : IsCopy witness.nodes last second
-    copy_second = copy_stays witness.nodes base last second is_witness.nodes grown frame_y.copy
+      pub property_conclusions : Says y.nodes (good_claims model x.images)
+          (λ z. IsGoodState model (read y.nodes x.images z))
+      property_conclusions = good_says model is_model y.nodes x.images copy_x
 
-    copy_far : IsCopy witness.nodes far second
-    copy_far =
-        copy_stays witness.nodes base far second is_witness.nodes frame_next.grows frame_y.copy
+      pub property_decided : AsksWhether (PropertyHolds shared model witness)
+          (make_property model witness x y)
+      property_decided =
+          asks_whether y.nodes frame_y.grows.sound _ _ _ _ property_premises
+          property_conclusions _ (
+            λ holds z p. holds (read y.nodes x.images z) (read y.nodes y.images z) (agrees z) p.0.0
+                p.0.1 p.1,
+            λ never s t same of_model of_witness good.
+                let m = met s t same in
+                let s' = read y.nodes x.images m.at in
+                let t' = read y.nodes y.images m.at in
+                let to_t = turned witness t' t m.of_witness in
+                good_same model is_model s' s m.of_model
+                (never m.at (
+                  (
+                    constraints_same model is_model s s' (turned model s' s m.of_model) of_model,
+                    constraints_same witness is_witness t t' to_t of_witness,
+                  ),
+                  good_same witness is_witness t t' to_t good,
+                )),
+          )
 
-    -- the shared leaves agree, the model moves, and so do the own latches
-    agrees_first : (w : ℕ → Bool) → Agrees shared (read last first w) (read last second w)
-    agrees_first w k d h = ap (edge_value last w) (sym (frame_y.shares k d h))
+      -- ---- and the states after a step
 
-    agrees_next : (w : ℕ → Bool) → Agrees shared (read last third w) (read last fourth w)
-    agrees_next w k d h = ap (edge_value last w) (sym (frame_z.shares k d h))
+      module _ (next : Frame) (is_next : next ≡ moved model x.images y.nodes) where
+        pub frame_next : IsFrame model model.latchs x.images [] [] y.nodes next
+        frame_next =
+            subst (IsFrame model model.latchs x.images [] [] y.nodes) (sym is_next)
+            (moved_frame model is_model x.images y.nodes frame_y.grows.sound copy_x)
 
-    model_moves : (w : ℕ → Bool) → IsMove model (read last first w) (read last third w)
-    model_moves w k d h =
-        ap (edge_value last w) (frame_next.moves k d h no_share)
-        ∙ copy_first.value w (get_or model.latchs k d).next (is_model.latchs k d h).next
-      where
-        no_share : IsOwn [] (get_or model.latchs k d).input
-        no_share has = absurd (omega (arith, has.1))
+        pub copy_y : IsCopy witness.nodes next.nodes y.images
+        copy_y =
+            copy_stays witness.nodes y.nodes next.nodes y.images is_witness.nodes frame_next.grows
+            frame_y.copy
 
-    own_moves : (w : ℕ → Bool)
-        → AllOwn shared (TakesNext witness (read last second w) (read last fourth w)) witness.latchs
-    own_moves w k d h own =
-        ap (edge_value last w) (frame_z.moves k d h own)
-        ∙ copy_second.value w (get_or witness.latchs k d).next (is_witness.latchs k d h).next
+        module _ (z : Frame)
+            (is_z : z ≡ moved_beside (model_leaf shared) witness y.images next) where
+          pub frame_z : IsFrame witness witness.latchs y.images shared next.images next.nodes z
+          frame_z =
+              subst (IsFrame witness witness.latchs y.images shared next.images next.nodes)
+              (sym is_z)
+              (moved_beside_frame shared model witness can next frame_next.copy is_witness
+              frame_next.grows.sound y.images copy_y)
 
-    -- all such states are read off some values
-    record MetNext (x next y z : ℕ → Bool) : Type 0 where
-      at : ℕ → Bool
-      of_x : (n : ℕ) → IsLeaf model.nodes n → x n ≡ read last first at n
-      of_next : (n : ℕ) → IsLeaf model.nodes n → next n ≡ read last third at n
-      of_y : (n : ℕ) → IsLeaf witness.nodes n → y n ≡ read last second at n
-      of_z : (n : ℕ) → IsLeaf witness.nodes n → z n ≡ read last fourth at n
+          pub grown : Grows y.nodes z.nodes
+          grown = Grows-then y.nodes next.nodes z.nodes frame_next.grows frame_z.grows
 
-    met_next : (x next y z : ℕ → Bool) → Agrees shared x y → Agrees shared next z
-        → IsMove model x next → AllOwn shared (TakesNext witness y z) witness.latchs
-        → MetNext x next y z
-    met_next x next y z same same_next moves own =
-        let m = met x y same in
-        let from = m.at in
-        let v = frame_next.each from next (nothing _)
-        (λ k d h none.
-        let l = get_or model.latchs k d in
-        copy_x.value from l.next (is_model.latchs k d h).next
-        ∙ value_same model is_model (read base first from) x (λ n leaf. sym (m.of_model n leaf))
-        l.next
-        ∙ sym (moves k d h)) in
-        let there_second : (n : ℕ) → IsLeaf witness.nodes n → IsInRange base (image_at second n) =
-        λ n leaf. frame_y.copy.there n (kind_at-within witness.nodes n Leaf leaf) in
-        let far_y : (n : ℕ) → IsLeaf witness.nodes n → read far second v.0 n ≡ y n = λ n leaf.
-        carried base far frame_y.grows.sound frame_next.grows second from v.0 v.1 n
-        (there_second n leaf)
-        ∙ sym (m.of_witness n leaf) in
-        let w = frame_z.each v.0 z
-        (λ k d h. v.2 (get_or shared k d).0 (can.model_leaves k d h) ∙ same_next k d h)
-        (λ k d h own_one.
-        let l = get_or witness.latchs k d in
-        copy_far.value v.0 l.next (is_witness.latchs k d h).next
-        ∙ value_same witness is_witness (read far second v.0) y far_y l.next
-        ∙ sym (own k d h own_one)) in
-        let stays : (n : ℕ) → n < length base → w.0 n ≡ from n = λ n h.
-        let longer : length base ≤ length far = frame_next.grows.longer in
-        w.1 n (omega arith) ∙ v.1 n h in
-        record {
-          at = w.0;
-          of_x = λ n leaf.
-              m.of_model n leaf
-              ∙ sym (carried base last frame_y.grows.sound grown first from w.0 stays n
-              (copy_x.there n (kind_at-within model.nodes n Leaf leaf)));
-          of_next = λ n leaf.
-              sym (carried far last frame_next.grows.sound frame_z.grows third v.0 w.0 w.1 n
-              (frame_next.copy.there n (kind_at-within model.nodes n Leaf leaf))
-              ∙ v.2 n leaf);
-          of_y = λ n leaf.
-              m.of_witness n leaf
-              ∙ sym (carried base last frame_y.grows.sound grown second from w.0 stays n
-              (there_second n leaf));
-          of_z = λ n leaf. sym (w.2 n leaf);
-        }
+          pub last_x : IsCopy model.nodes z.nodes x.images
+          last_x = copy_stays model.nodes y.nodes z.nodes x.images is_model.nodes grown copy_x
 
-    module _ (new : List AigNode) (e : AigEdge) where
-      pub transition_decided : IsFalseWhere last new e
-          (λ w. MeetsConstraints model (read last first w)
-          × MeetsConstraints model (read last third w)
-          × MeetsConstraints witness (read last second w)
-          → IsMove witness (read last second w) (read last fourth w)
-          × MeetsConstraints witness (read last fourth w))
-          → AsksWhether (TransitionHolds shared model witness) old new e
-      transition_decided is = record {
-        grows =
-            Grows-then old last new
-            (Grows-then old base last (Grows-then old mid base frame_x.grows frame_y.grows) grown)
-            is.grows;
-        there = is.there;
-        asks = (
-          λ holds w. (is.holds w).1
-              (λ p. holds (read last first w) (read last third w) (read last second w)
-              (read last fourth w) (agrees_first w) (agrees_next w) (model_moves w) p.0 p.1 p.2
-              (own_moves w)),
-          λ never x next y z same same_next moves of_x of_next of_y own.
-              let m = met_next x next y z same same_next moves own in
-              let y' = read last second m.at in
-              let z' = read last fourth m.at in
-              let shown = (is.holds m.at).0 (never m.at) (
-                constraints_same model is_model x (read last first m.at) m.of_x of_x,
-                constraints_same model is_model next (read last third m.at) m.of_next of_next,
-                constraints_same witness is_witness y y' m.of_y of_y,
-              ) in (
-                moves_same witness is_witness y' y z' z (λ n leaf. sym (m.of_y n leaf))
-                    (λ n leaf. sym (m.of_z n leaf)) shown.0,
-                constraints_same witness is_witness z' z (λ n leaf. sym (m.of_z n leaf)) shown.1,
-              ),
-        );
-      }
+          pub last_y : IsCopy witness.nodes z.nodes y.images
+          last_y =
+              copy_stays witness.nodes y.nodes z.nodes y.images is_witness.nodes grown
+              frame_y.copy
+
+          pub last_next : IsCopy model.nodes z.nodes next.images
+          last_next =
+              copy_stays model.nodes next.nodes z.nodes next.images is_model.nodes frame_z.grows
+              frame_next.copy
+
+          -- all such states are read off some values
+          record MetNext (s u t v : ℕ → Bool) : Type 0 where
+            at : ℕ → Bool
+            of_x : Same model (read z.nodes x.images at) s
+            of_next : Same model (read z.nodes next.images at) u
+            of_y : Same witness (read z.nodes y.images at) t
+            of_z : Same witness (read z.nodes z.images at) v
+
+          module _ (s u t v : ℕ → Bool) (m : Met s t) (a : ℕ → Bool)
+              (stays : (n : ℕ) → n < length y.nodes → a n ≡ m.at n)
+              (of_next : Same model (read next.nodes next.images a) u) where
+            far : Same witness (read next.nodes y.images a) t
+            far n leaf =
+                carried witness y.nodes next.nodes y.images frame_y.grows.sound frame_next.grows
+                frame_y.copy m.at a stays n leaf
+                ∙ m.of_witness n leaf
+
+            met_last : (b : ℕ → Bool) → ((n : ℕ) → n < length next.nodes → b n ≡ a n)
+                → Same witness (read z.nodes z.images b) v → MetNext s u t v
+            met_last b goes_on of_z = record {
+              at = b;
+              of_x = λ n leaf.
+                  carried model y.nodes z.nodes x.images frame_y.grows.sound grown copy_x m.at
+                  b first n
+                  leaf
+                  ∙ m.of_model n leaf;
+              of_next = λ n leaf.
+                  carried model next.nodes z.nodes next.images frame_next.grows.sound frame_z.grows
+                  frame_next.copy a b goes_on n leaf
+                  ∙ of_next n leaf;
+              of_y = λ n leaf.
+                  carried witness y.nodes z.nodes y.images frame_y.grows.sound grown frame_y.copy
+                  m.at b
+                  first n leaf
+                  ∙ m.of_witness n leaf;
+              of_z = of_z;
+            }
+              where
+                first : (n : ℕ) → n < length y.nodes → b n ≡ m.at n
+                first n h = goes_on n (omega (arith, h, frame_next.grows.longer)) ∙ stays n h
+
+          met_next : (s u t v : ℕ → Bool) → Agrees shared s t → Agrees shared u v → IsMove model s u
+              → AllOwn shared (TakesNext witness t v) witness.latchs → MetNext s u t v
+          met_next s u t v same same_next moves own =
+              let m = met s t same in
+              let a = frame_next.each m.at u (All-nil _)
+              (λ k d h none.
+              next_read model is_model y.nodes x.images copy_x m.at s u m.of_model
+              (get_or model.latchs k d) (is_model.latchs k d h) (moves k d h)) in
+              let b = frame_z.each a.0 v
+              (λ k d h. a.2 (get_or shared k d).0 (can.model_leaves k d h) ∙ same_next k d h)
+              (λ k d h owned.
+              next_read witness is_witness next.nodes y.images copy_y a.0 t v
+              (far s u t v m a.0 a.1 a.2) (get_or witness.latchs k d) (is_witness.latchs k d h)
+              (own k d h owned)) in
+              met_last s u t v m a.0 a.1 a.2 b.0 b.1 b.2
+
+          pub transition_premises : Says z.nodes
+              (constraint_claims model x.images ++ constraint_claims model next.images
+              ++ constraint_claims witness y.images)
+              (λ w. (MeetsConstraints model (read z.nodes x.images w)
+              × MeetsConstraints model (read z.nodes next.images w))
+              × MeetsConstraints witness (read z.nodes y.images w))
+          transition_premises =
+              says_both z.nodes _ (constraint_claims witness y.images) _ _
+              (says_both z.nodes (constraint_claims model x.images)
+              (constraint_claims model next.images)
+              _ _ (constraints_say model is_model z.nodes x.images last_x)
+              (constraints_say model is_model z.nodes next.images last_next))
+              (constraints_say witness is_witness z.nodes y.images last_y)
+
+          pub transition_conclusions : Says z.nodes
+              (move_claims witness y.images z.images ++ constraint_claims witness z.images)
+              (λ w. IsMove witness (read z.nodes y.images w) (read z.nodes z.images w)
+              × MeetsConstraints witness (read z.nodes z.images w))
+          transition_conclusions =
+              says_both z.nodes (move_claims witness y.images z.images)
+              (constraint_claims witness z.images) _ _
+              (moves_say witness is_witness z.nodes y.images z.images last_y frame_z.copy)
+              (constraints_say witness is_witness z.nodes z.images frame_z.copy)
+
+          pub transition_decided : AsksWhether (TransitionHolds shared model witness)
+              (make_transition model witness x y next z)
+          transition_decided =
+              asks_whether z.nodes frame_z.grows.sound _ _ _ _ transition_premises
+              transition_conclusions _ (
+                λ holds w p. holds (read z.nodes x.images w) (read z.nodes next.images w)
+                    (read z.nodes y.images w) (read z.nodes z.images w)
+                    (λ k d h. ap (edge_value z.nodes w) (sym (frame_y.shares k d h)))
+                    (λ k d h. ap (edge_value z.nodes w) (sym (frame_z.shares k d h)))
+                    (next_moves w) p.0.0 p.0.1 p.1
+                    (frame_moves witness is_witness shared y.images next.images next.nodes z frame_z
+                    last_y w),
+                λ never s u t v same same_next moves of_x of_next of_y own.
+                    let m = met_next s u t v same same_next moves own in
+                    let t' = read z.nodes y.images m.at in
+                    let v' = read z.nodes z.images m.at in
+                    let shown = never m.at (
+                      (
+                        constraints_same model is_model s _ (turned model _ s m.of_x) of_x,
+                        constraints_same model is_model u _ (turned model _ u m.of_next) of_next,
+                      ),
+                      constraints_same witness is_witness t t' (turned witness t' t m.of_y) of_y,
+                    ) in (
+                      moves_same witness is_witness t' t v' v m.of_y m.of_z shown.0,
+                      constraints_same witness is_witness v' v m.of_z shown.1,
+                    ),
+              )
+            where
+              next_moves : (w : ℕ → Bool)
+                  → IsMove model (read z.nodes x.images w) (read z.nodes next.images w)
+              next_moves w k d h =
+                  ap (edge_value z.nodes w)
+                  (frame_next.moves k d h (λ has. absurd (omega (arith, has.1))))
+                  ∙ last_x.value w (get_or model.latchs k d).next (is_model.latchs k d h).next
 
 -- ---- the witness circuit alone
 
-module _ (witness : Circuit) (is_witness : IsCircuit witness) (old base : List AigNode)
-    (first : List AigEdge) (frame_y : IsFirstFrame witness old base first) where
-  pub base_decided : (new : List AigNode) (e : AigEdge) → IsFalseWhere base new e
-      (λ z. IsInitial witness (read base first z) × MeetsConstraints witness (read base first z)
-      → IsGoodState witness (read base first z))
-      → AsksWhether (BaseHolds witness) old new e
-  base_decided new e is = record {
-    grows = Grows-then old base new frame_y.grows is.grows;
-    there = is.there;
-    asks = (
-      λ holds z. (is.holds z).1 (λ p. holds (read base first z) p.0 p.1),
-      λ never y initial constraints.
-          let w = first_met witness old base first frame_y y in
-          let y' = read base first w.0 in
-          let back : (n : ℕ) → IsLeaf witness.nodes n → y n ≡ y' n = λ n leaf. sym (w.1 n leaf) in
-          let shown = (is.holds w.0).0 (never w.0) (
-            all_start_same witness is_witness y y' back witness.latchs is_witness.latchs initial,
-            constraints_same witness is_witness y y' back constraints,
-          ) in
-          good_same witness is_witness y' y w.1 shown,
-    );
-  }
+module _ (c : Circuit) (is : IsCircuit c) (old : List AigNode) (are : AreNodes old) (y : Frame)
+    (is_y : y ≡ copy_after old c no_leaf) where
+  pub frame_alone : IsFrame c [] [] [] [] old y
+  frame_alone = first_frame c is old are y is_y
 
-  module _ (last : List AigNode) (second : List AigEdge)
-      (frame_z : IsFrame witness witness.latchs first [] [] base last second) where
-    pub copy_before : IsCopy witness.nodes last first
-    copy_before =
-        copy_stays witness.nodes base last first is_witness.nodes frame_z.grows frame_y.copy
+  pub base_premises : Says y.nodes (start_claims c.latchs y.images ++ constraint_claims c y.images)
+      (λ z. IsInitial c (read y.nodes y.images z) × MeetsConstraints c (read y.nodes y.images z))
+  base_premises =
+      says_both y.nodes (start_claims c.latchs y.images) (constraint_claims c y.images) _ _
+      (starts_say c is y.nodes y.images frame_alone.copy c.latchs is.latchs)
+      (constraints_say c is y.nodes y.images frame_alone.copy)
 
-    all_move : (w : ℕ → Bool) → IsMove witness (read last first w) (read last second w)
-    all_move w k d h =
-        ap (edge_value last w) (frame_z.moves k d h no_share)
-        ∙ copy_before.value w (get_or witness.latchs k d).next (is_witness.latchs k d h).next
-      where
-        no_share : IsOwn [] (get_or witness.latchs k d).input
-        no_share has = absurd (omega (arith, has.1))
+  pub base_conclusions : Says y.nodes (good_claims c y.images)
+      (λ z. IsGoodState c (read y.nodes y.images z))
+  base_conclusions = good_says c is y.nodes y.images frame_alone.copy
 
-    pub step_decided : (new : List AigNode) (e : AigEdge) → IsFalseWhere last new e
-        (λ w. IsGoodState witness (read last first w) × MeetsConstraints witness (read last first w)
-        × MeetsConstraints witness (read last second w)
-        → IsGoodState witness (read last second w))
-        → AsksWhether (StepHolds witness) old new e
-    step_decided new e is = record {
-      grows = Grows-then old last new (Grows-then old base last frame_y.grows frame_z.grows)
-          is.grows;
-      there = is.there;
-      asks = (
-        λ holds w. (is.holds w).1
-            (λ p. holds (read last first w) (read last second w) p.0 (all_move w) p.1 p.2),
-        λ never y z good moves of_y of_z.
-            let v = first_met witness old base first frame_y y in
-            let before : (n : ℕ) → IsLeaf witness.nodes n → read base first v.0 n ≡ y n = v.1 in
-            let w = frame_z.each v.0 z (nothing _)
-            (λ k d h own.
-            let l = get_or witness.latchs k d in
-            let is_latch = is_witness.latchs k d h in
-            frame_y.copy.value v.0 l.next is_latch.next
-            ∙ value_same witness is_witness (read base first v.0) y v.1 l.next
-            ∙ sym (moves k d h)) in
-            let y' = read last first w.0 in
-            let z' = read last second w.0 in
-            let same_y : (n : ℕ) → IsLeaf witness.nodes n → y n ≡ y' n = λ n leaf.
-            sym (carried base last frame_y.grows.sound frame_z.grows first v.0 w.0 w.1 n
-            (frame_y.copy.there n (kind_at-within witness.nodes n Leaf leaf))
-            ∙ v.1 n leaf) in
-            let same_z : (n : ℕ) → IsLeaf witness.nodes n → z n ≡ z' n = λ n leaf. sym (w.2 n leaf)
-            in
-            let shown = (is.holds w.0).0 (never w.0) (
-              good_same witness is_witness y y' same_y good,
-              constraints_same witness is_witness y y' same_y of_y,
-              constraints_same witness is_witness z z' same_z of_z,
-            ) in
-            good_same witness is_witness z' z w.2 shown,
-      );
-    }
+  pub base_decided : AsksWhether (BaseHolds c) (make_base c y)
+  base_decided =
+      asks_whether y.nodes frame_alone.grows.sound _ _ _ _ base_premises base_conclusions _ (
+        λ holds z p. holds (read y.nodes y.images z) p.0 p.1,
+        λ never s initial constraints.
+            let w = first_met c old y frame_alone s in
+            let s' = read y.nodes y.images w.0 in
+            let back = turned c s' s w.1 in
+            good_same c is s' s w.1
+            (never w.0 (
+              all_start_same c is s s' back c.latchs is.latchs initial,
+              constraints_same c is s s' back constraints,
+            )),
+      )
+
+  module _ (z : Frame) (is_z : z ≡ moved c y.images y.nodes) where
+    pub frame_moved : IsFrame c c.latchs y.images [] [] y.nodes z
+    frame_moved =
+        subst (IsFrame c c.latchs y.images [] [] y.nodes) (sym is_z)
+        (moved_frame c is y.images y.nodes frame_alone.grows.sound frame_alone.copy)
+
+    pub copy_alone : IsCopy c.nodes z.nodes y.images
+    copy_alone =
+        copy_stays c.nodes y.nodes z.nodes y.images is.nodes frame_moved.grows frame_alone.copy
+
+    pub step_premises : Says z.nodes
+        (good_claims c y.images ++ constraint_claims c y.images ++ constraint_claims c z.images)
+        (λ w. (IsGoodState c (read z.nodes y.images w) × MeetsConstraints c (read z.nodes y.images
+        w)) × MeetsConstraints c (read z.nodes z.images w))
+    step_premises =
+        says_both z.nodes _ (constraint_claims c z.images) _ _
+        (says_both z.nodes (good_claims c y.images) (constraint_claims c y.images) _ _
+        (good_says c is z.nodes y.images copy_alone)
+        (constraints_say c is z.nodes y.images copy_alone))
+        (constraints_say c is z.nodes z.images frame_moved.copy)
+
+    pub step_conclusions : Says z.nodes (good_claims c z.images)
+        (λ w. IsGoodState c (read z.nodes z.images w))
+    step_conclusions = good_says c is z.nodes z.images frame_moved.copy
+
+    kept : (t v w : ℕ → Bool) → Same c (read y.nodes y.images v) t
+        → ((n : ℕ) → n < length y.nodes → w n ≡ v n) → Same c t (read z.nodes y.images w)
+    kept t v w first stays n leaf =
+        sym (carried c y.nodes z.nodes y.images frame_alone.grows.sound frame_moved.grows
+        frame_alone.copy v w stays n leaf
+        ∙ first n leaf)
+
+    pub step_decided : AsksWhether (StepHolds c) (make_step c y z)
+    step_decided =
+        asks_whether z.nodes frame_moved.grows.sound _ _ _ _ step_premises step_conclusions _ (
+          λ holds w p. holds (read z.nodes y.images w) (read z.nodes z.images w) p.0.0
+              (all_move c is y.images y.nodes z frame_moved copy_alone w) p.0.1 p.1,
+          λ never t v good moves of_t of_v.
+              let a = first_met c old y frame_alone t in
+              let b = frame_moved.each a.0 v (All-nil _)
+              (λ k d h own.
+              next_read c is y.nodes y.images frame_alone.copy a.0 t v a.1 (get_or c.latchs k d)
+              (is.latchs k d h) (moves k d h)) in
+              let t' = read z.nodes y.images b.0 in
+              let v' = read z.nodes z.images b.0 in
+              let same = kept t a.0 b.0 a.1 b.1 in
+              good_same c is v' v b.2
+              (never b.0 (
+                (good_same c is t t' same good, constraints_same c is t t' same of_t),
+                constraints_same c is v v' (turned c v' v b.2) of_v,
+              )),
+        )
+
+-- ---- each condition's question
+
+pub decided : (condition : Condition) (shared : Sharing) (model witness : Circuit)
+    → AreCircuits condition model witness → CanShareLeaves shared model witness
+    → (old : List AigNode) → AreNodes old
+    → AsksWhether (Holds condition shared model witness)
+    (asked_of condition old (model_leaf shared) model witness)
+decided Reset shared model witness are can old sound =
+    reset_decided shared model witness are.0 are.1 can old sound _ refl _ refl
+    (own_latches (model_leaf shared) witness.latchs) (sym (own_is shared witness.latchs))
+decided Transition shared model witness are can old sound =
+    transition_decided shared model witness are.0 are.1 can old sound _ refl _ refl _ refl _ refl
+decided Property shared model witness are can old sound =
+    property_decided shared model witness are.0 are.1 can old sound _ refl _ refl
+decided Base shared model witness is can old sound = base_decided witness is old sound _ refl
+decided Step shared model witness is can old sound =
+    step_decided witness is old sound _ refl _ refl

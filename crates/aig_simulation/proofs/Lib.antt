@@ -2,11 +2,13 @@ mod Words
 pub mod Putting
 pub mod Tracking
 pub mod Filling
+pub mod First
 pub mod Exactly
+pub mod Gates
 pub mod Copied
-pub mod Giving
-pub mod Meaning
+pub mod Framed
 pub mod Reading
+pub mod Owned
 pub mod Deciding
 pub mod AskedCircuits
 pub mod Constant

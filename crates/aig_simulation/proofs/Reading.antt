@@ -1,6 +1,7 @@
--- States that are read off copies, and what holds of them.
-use Rattle.aig_simulation.proofs.Words.{◌≡◌, ℕ, ◌<◌, ◌↔◌, Bool, true, false, not, IsTrue, Option, Some, None, IfSome, List, ◌++◌, length, map, get_or, refl, sym, ap, ◌∙◌, arith, All, All-map, subst, AigEdge, AigLatch, AigNode, Leaf, Circuit, IsCircuit, IsInRange, IsLatch, IsLeaf, edge_value, inverse, edge_value-inverse, All-from_map, kind_at-within, edge_value_by_leaves, IsGoodState, MeetsConstraints, image_at, image_in, Adds, HoldWhere, IsEqual, Pair, move_pair, start_image, start_pair, HasImage, IsCopy, read, IsMove, Starts}
-use Rattle.aig_simulation.proofs.Meaning.{IsPair, hold_equal, hold_images, hold_words}
+-- States that are read off copies, and what claims say of them.
+use Rattle.aig_simulation.proofs.Words.{AigEdge, AigLatch, AigNode, All, All-append, All-first, All-from_map, All-map, All-second, AllPass-from_list_all, AreNodes, Bool, Circuit, Claim, Edge, Equal, IfSome, IsCircuit, IsClaimIn, IsGoodState, IsInRange, IsLatch, IsLeaf, IsMove, IsTrue, Leaf, List, Made, MeetsConstraints, None, Option, Some, Starts, TakesNext, ap, beq, booleans_Decides, constraint_claims, edge_value, edge_value-inverse, edge_value_by_leaves, false, false≢true, get_or, good_claims, image_at, image_in, inverse, kind_at-within, list_all, list_all-from_AllPass, make_refuting, map, move_claim, move_claims, not, refl, start_claim, start_claims, start_image, subst, sym, true, ℕ, ◌&&◌, ◌++◌, ◌↔◌, ◌∙◌, ◌≡◌}
+use Rattle.aig_simulation.proofs.Framed.{IsCopy, read}
+use Rattle.aig_simulation.proofs.Gates.{Gives, claim_value, refuting_gives}
 
 -- ---- leaves decide
 
@@ -36,180 +37,171 @@ moves_same c is x y x' y' same same' all k d h =
     let latch = get_or c.latchs k d in
     sym (same' latch.input (is.latchs k d h).leaf) ∙ all k d h ∙ value_same c is x y same latch.next
 
--- ---- what copies read
+-- ---- what claims say
 
-module _ (c : Circuit) (base : List AigNode) (images : List AigEdge)
+-- the claims' edges are there, and they hold exactly where P does
+pub record Says (base : List AigNode) (claims : List Claim) (P : (ℕ → Bool) → Type 0) : Type 0
+  where
+    pub there : All (IsClaimIn base) claims
+    pub holds : (z : ℕ → Bool) → All (λ c. IsTrue (claim_value base z c)) claims ↔ P z
+
+pub says_both : (base : List AigNode) (xs ys : List Claim) (P Q : (ℕ → Bool) → Type 0)
+    → Says base xs P → Says base ys Q → Says base (xs ++ ys) (λ z. P z × Q z)
+says_both base xs ys P Q first second = record {
+  there = All-append (IsClaimIn base) xs ys first.there second.there;
+  holds = λ z.
+      let T : Claim → Type 0 = λ c. IsTrue (claim_value base z c) in (
+        λ all. (
+          (first.holds z).0 (All-first T xs ys all),
+          (second.holds z).0 (All-second T xs ys all),
+        ),
+        λ p. All-append T xs ys ((first.holds z).1 p.0) ((second.holds z).1 p.1),
+      );
+}
+
+says_map : {X : Type 0} (base : List AigNode) (f : X → Claim) (xs : List X)
+    (Q : (ℕ → Bool) → X → Type 0)
+    → All (λ x. IsClaimIn base (f x)
+    × ((z : ℕ → Bool) → IsTrue (claim_value base z (f x)) ↔ Q z x)) xs
+    → Says base (map f xs) (λ z. All (Q z) xs)
+says_map base f xs Q all = record {
+  there = All-map (IsClaimIn base) f xs (λ k d h. (all k d h).0);
+  holds = λ z.
+      let T : Claim → Type 0 = λ c. IsTrue (claim_value base z c) in (
+        λ hold k d h. ((all k d h).1 z).0 (All-from_map f T xs hold k d h),
+        λ hold. All-map T f xs (λ k d h. ((all k d h).1 z).1 (hold k d h)),
+      );
+}
+
+module _ (c : Circuit) (is : IsCircuit c) (base : List AigNode) (images : List AigEdge)
     (copy : IsCopy c.nodes base images) where
-  -- a node's image is there
-  pub has_image : (n : ℕ) → n < length c.nodes → HasImage base images n
-  has_image n h =
-      let count : length images ≡ length c.nodes = copy.count in
-      let within : n < length images = omega arith in
-      (within, copy.there n h)
-
-  pub images_there : (es : List AigEdge) → All (IsInRange c.nodes) es
-      → All (λ e. IsInRange base (image_in images e)) es
-  images_there es all k d h = copy.there (get_or es k d).node_id (all k d h)
-
-  pub starts_there : (latchs : List AigLatch) → All (IsLatch c.nodes) latchs
-      → All (IsPair base) (map (start_pair images) latchs)
-  starts_there latchs all =
-      All-map (IsPair base) (start_pair images) latchs (λ k d h. at (get_or latchs k d) (all k d h))
-    where
-      at : (latch : AigLatch) → IsLatch c.nodes latch → IsPair base (start_pair images latch)
-      at latch is_latch =
-          let leaf = copy.there latch.input (kind_at-within c.nodes latch.input Leaf is_latch.leaf)
-          in
-          (by latch.init is_latch.init leaf, leaf)
-        where
-          by : (init : Option AigEdge) → IfSome init (IsInRange c.nodes)
-              → IsInRange base (image_at images latch.input)
-              → IsInRange base (start_image images (image_at images latch.input) init)
-          by (Some e) within leaf = copy.there e.node_id within
-          by None within leaf = leaf
-
-  module _ (z : ℕ → Bool) where
-    -- the state
-    abbrev state : ℕ → Bool
-    state = read base images z
-
-    pub constraints_read : (es : List AigEdge) → All (IsInRange c.nodes) es
-        → All (λ e. IsTrue (edge_value base z (image_in images e))) es
-        ↔ All (λ e. IsTrue (edge_value c.nodes state e)) es
-    constraints_read es all = (
-      λ hold k d h. sym (copy.value z (get_or es k d) (all k d h)) ∙ hold k d h,
-      λ hold k d h. copy.value z (get_or es k d) (all k d h) ∙ hold k d h,
-    )
-
-    pub bads_read : (es : List AigEdge) → All (IsInRange c.nodes) es
-        → All (λ e. IsTrue (edge_value base z (inverse (image_in images e)))) es
-        ↔ All (λ e. edge_value c.nodes state e ≡ false) es
-    bads_read es all = (
-      λ hold k d h.
-          let e = get_or es k d in
-          sym (copy.value z e (all k d h))
-          ∙ was_false _ (sym (edge_value-inverse base z (image_in images e)) ∙ hold k d h),
-      λ hold k d h.
-          let e = get_or es k d in
-          edge_value-inverse base z (image_in images e)
-          ∙ ap not (copy.value z e (all k d h) ∙ hold k d h),
-    )
-      where
-        was_false : (b : Bool) → not b ≡ true → b ≡ false
-        was_false true h = sym h
-        was_false false h = refl
-
-    pub starts_read : (latchs : List AigLatch) → All (IsLatch c.nodes) latchs
-        → All (IsEqual base z) (map (start_pair images) latchs) ↔ All (Starts c state) latchs
-    starts_read latchs all = (
-      λ equal k d h.
-          let is_latch = all k d h in
-          (at (get_or latchs k d) is_latch).0
-          (All-from_map (start_pair images) (IsEqual base z) latchs equal k d h),
-      λ starts.
-          All-map (IsEqual base z) (start_pair images) latchs
-          (λ k d h. (at (get_or latchs k d) (all k d h)).1 (starts k d h)),
-    )
-      where
-        at : (latch : AigLatch) → IsLatch c.nodes latch
-            → IsEqual base z (start_pair images latch) ↔ Starts c state latch
-        at latch is_latch = by latch.init is_latch.init
-          where
-            by : (init : Option AigEdge) → IfSome init (IsInRange c.nodes)
-                → (edge_value base z (start_image images (image_at images latch.input) init)
-                ≡ edge_value base z (image_at images latch.input))
-                ↔ IfSome init (λ e. edge_value c.nodes state e ≡ state latch.input)
-            by (Some e) within =
-                (λ h. sym (copy.value z e within) ∙ h, λ h. copy.value z e within ∙ h)
-            by None within = (λ h. tt, λ h. refl)
-
--- moves from one copy to another
-module _ (c : Circuit) (is : IsCircuit c) (base : List AigNode) (before after : List AigEdge)
-    (first : IsCopy c.nodes base before) (second : IsCopy c.nodes base after) where
-  pub moves_there : All (IsPair base) (map (move_pair before after) c.latchs)
-  moves_there =
-      All-map (IsPair base) (move_pair before after) c.latchs
+  pub constraints_say : Says base (constraint_claims c images)
+      (λ z. MeetsConstraints c (read base images z))
+  constraints_say =
+      says_map base (λ (e : AigEdge). Edge (image_in images e)) c.properties.constraints
+      (λ z e. IsTrue (edge_value c.nodes (read base images z) e))
       (λ k d h.
-      let latch = get_or c.latchs k d in
-      let is_latch = is.latchs k d h in (
-        second.there latch.input (kind_at-within c.nodes latch.input Leaf is_latch.leaf),
-        first.there latch.next.node_id is_latch.next,
+      let within = is.properties.constraints k d h in (
+        copy.there _ within,
+        λ z. (λ true. sym (copy.value z _ within) ∙ true, λ true. copy.value z _ within ∙ true),
       ))
 
-  pub moves_read : (z : ℕ → Bool)
-      → All (IsEqual base z) (map (move_pair before after) c.latchs)
-      ↔ IsMove c (read base before z) (read base after z)
-  moves_read z = (
-    λ equal k d h.
-        let latch = get_or c.latchs k d in
-        All-from_map (move_pair before after) (IsEqual base z) c.latchs equal k d h
-        ∙ first.value z latch.next (is.latchs k d h).next,
-    λ moves.
-        All-map (IsEqual base z) (move_pair before after) c.latchs
-        (λ k d h. moves k d h ∙ sym (first.value z (get_or c.latchs k d).next (is.latchs k d
-        h).next)),
-  )
+  pub good_says : Says base (good_claims c images) (λ z. IsGoodState c (read base images z))
+  good_says =
+      says_map base (λ (e : AigEdge). Edge (inverse (image_in images e))) c.properties.bads
+      (λ z e. edge_value c.nodes (read base images z) e ≡ false)
+      (λ k d h.
+      let within = is.properties.bads k d h in (
+        copy.there _ within,
+        λ z.
+            let turned = edge_value-inverse base z (image_in images (get_or c.properties.bads k d))
+            in (
+              λ true. sym (copy.value z _ within) ∙ was_false _ (sym turned ∙ true),
+              λ false. turned ∙ ap not (copy.value z _ within ∙ false),
+            ),
+      ))
+    where
+      was_false : (b : Bool) → not b ≡ true → b ≡ false
+      was_false true h = sym h
+      was_false false h = refl
 
--- ---- the edges of a question, by what they mean
+  pub starts_say : (latchs : List AigLatch) → All (IsLatch c.nodes) latchs
+      → Says base (start_claims latchs images)
+      (λ z. All (Starts c (read base images z)) latchs)
+  starts_say latchs are =
+      says_map base (start_claim images) latchs (λ z. Starts c (read base images z))
+      (λ k d h. at (get_or latchs k d) (are k d h))
+    where
+      at : (latch : AigLatch) → IsLatch c.nodes latch
+          → IsClaimIn base (start_claim images latch)
+          × ((z : ℕ → Bool) → IsTrue (claim_value base z (start_claim images latch))
+          ↔ Starts c (read base images z) latch)
+      at latch is_latch =
+          by latch.init is_latch.init
+          (copy.there latch.input (kind_at-within c.nodes latch.input Leaf is_latch.leaf))
+        where
+          leaf : AigEdge
+          leaf = image_at images latch.input
 
-module _ (c : Circuit) (is : IsCircuit c) (base nodes : List AigNode) (images : List AigEdge)
-    (copy : IsCopy c.nodes base images) (es : List AigEdge) (P : (ℕ → Bool) → Type 0)
-    (holds : HoldWhere base nodes es P) where
-  -- the constraints
-  pub hold_constraints : (read_list more : List AigEdge) → read_list ≡ c.properties.constraints
-      → more ≡ es ++ map (image_in images) read_list
-      → HoldWhere base nodes more (λ z. P z × MeetsConstraints c (read base images z))
-  hold_constraints read_list more value is_more =
-      let cs = c.properties.constraints in
-      hold_words base nodes more _ _
-      (λ z.
-      let same = constraints_read c base images copy z cs is.properties.constraints in
-      (λ p. (p.0, same.0 p.1), λ p. (p.0, same.1 p.1)))
-      (hold_images base nodes es P (image_in images) cs more holds
-      (images_there c base images copy cs is.properties.constraints)
-      (is_more ∙ ap (λ l. es ++ map (image_in images) l) value))
+          by : (init : Option AigEdge) → IfSome init (IsInRange c.nodes) → IsInRange base leaf
+              → IsClaimIn base (Equal (start_image images leaf init) leaf)
+              × ((z : ℕ → Bool)
+              → IsTrue (beq (edge_value base z (start_image images leaf init))
+              (edge_value base z leaf))
+              ↔ IfSome init (λ e. edge_value c.nodes (read base images z) e
+              ≡ read base images z latch.input))
+          by (Some e) within there = (
+            (copy.there e.node_id within, there),
+            λ z.
+                subst (λ v. IsTrue (beq (edge_value base z (image_in images e))
+                (edge_value base z leaf)) ↔ (v ≡ edge_value base z leaf)) (copy.value z e within)
+                (booleans_Decides _ _),
+          )
+          by None within there = (
+            (there, there),
+            λ z. (λ h. tt, λ u. (booleans_Decides _ _).1 refl),
+          )
 
-  -- the inverses of the bad edges
-  pub hold_good : (read_list more : List AigEdge) → read_list ≡ c.properties.bads
-      → more ≡ es ++ map (λ e. inverse (image_in images e)) read_list
-      → HoldWhere base nodes more (λ z. P z × IsGoodState c (read base images z))
-  hold_good read_list more value is_more =
-      let bads = c.properties.bads in
-      hold_words base nodes more _ _
-      (λ z.
-      let same = bads_read c base images copy z bads is.properties.bads in
-      (λ p. (p.0, same.0 p.1), λ p. (p.0, same.1 p.1)))
-      (hold_images base nodes es P (λ (e : AigEdge). inverse (image_in images e)) bads more holds
-      (images_there c base images copy bads is.properties.bads)
-      (is_more ∙ ap (λ l. es ++ map (λ (e : AigEdge). inverse (image_in images e)) l) value))
+-- the circuit moves from one copy to another
+pub moves_say : (c : Circuit) → IsCircuit c → (base : List AigNode) (before after : List AigEdge)
+    → IsCopy c.nodes base before → IsCopy c.nodes base after
+    → Says base (move_claims c before after)
+    (λ z. IsMove c (read base before z) (read base after z))
+moves_say c is base before after first second =
+    says_map base (move_claim before after) c.latchs
+    (λ z. TakesNext c (read base before z) (read base after z))
+    (λ k d h.
+    let latch = get_or c.latchs k d in
+    let is_latch = is.latchs k d h in (
+      (
+        second.there latch.input (kind_at-within c.nodes latch.input Leaf is_latch.leaf),
+        first.there latch.next.node_id is_latch.next,
+      ),
+      λ z.
+          let leaf = edge_value base z (image_at after latch.input) in
+          subst (λ v. IsTrue (beq leaf (edge_value base z (image_in before latch.next)))
+          ↔ (leaf ≡ v)) (first.value z latch.next is_latch.next) (booleans_Decides _ _),
+    ))
 
-  -- latches that start
-  pub hold_starts : (latchs : List AigLatch) (pairs : List Pair) (new : List AigNode)
-      (more : List AigEdge) → All (IsLatch c.nodes) latchs
-      → pairs ≡ map (start_pair images) latchs
-      → Adds nodes new es more (λ z. All (IsEqual nodes z) pairs)
-      → HoldWhere base new more (λ z. P z × All (Starts c (read base images z)) latchs)
-  hold_starts latchs pairs new more are made adds =
-      hold_words base new more _ _
-      (λ z.
-      let same = starts_read c base images copy z latchs are in
-      (λ p. (p.0, same.0 p.1), λ p. (p.0, same.1 p.1)))
-      (hold_equal base nodes new es more P (map (start_pair images) latchs) holds
-      (starts_there c base images copy latchs are)
-      (subst (λ l. Adds nodes new es more (λ z. All (IsEqual nodes z) l)) made adds))
+-- ---- the edge of a question
 
--- the circuit moves
-pub hold_moves : (c : Circuit) (is : IsCircuit c) (base new : List AigNode)
-    (before after more : List AigEdge) → IsCopy c.nodes base before → IsCopy c.nodes base after
-    → (pairs : List Pair) → pairs ≡ map (move_pair before after) c.latchs
-    → (es : List AigEdge) (P : (ℕ → Bool) → Type 0) → HoldWhere base base es P
-    → Adds base new es more (λ z. All (IsEqual base z) pairs)
-    → HoldWhere base new more (λ z. P z × IsMove c (read base before z) (read base after z))
-hold_moves c is base new before after more first second pairs made es P holds adds =
-    hold_words base new more _ _
-    (λ z.
-    let same = moves_read c is base before after first second z in
-    (λ p. (p.0, same.0 p.1), λ p. (p.0, same.1 p.1)))
-    (hold_equal base base new es more P (map (move_pair before after) c.latchs) holds
-    (moves_there c is base before after first second)
-    (subst (λ l. Adds base new es more (λ z. All (IsEqual base z) l)) made adds))
+-- the edge is never true exactly where the claim holds
+pub record AsksWhether (claim : Type 0) (made : Made) : Type 0 where
+  pub sound : AreNodes made.nodes
+  pub there : IsInRange made.nodes made.edge
+  pub asks : claim ↔ ((z : ℕ → Bool) → edge_value made.nodes z made.edge ≡ false)
+
+-- that of all premises, and not all conclusions
+pub asks_whether : (base : List AigNode) → AreNodes base → (premises conclusions : List Claim)
+    (P Q : (ℕ → Bool) → Type 0) → Says base premises P → Says base conclusions Q
+    → (claim : Type 0) → claim ↔ ((z : ℕ → Bool) → P z → Q z)
+    → AsksWhether claim (make_refuting base premises conclusions)
+asks_whether base are premises conclusions P Q first second claim same = record {
+  sound = made.grows.sound;
+  there = made.gives.there;
+  asks = (
+    λ holds z.
+        made.gives.value z
+        ∙ (not_both (all z premises) (all z conclusions)).1
+        (λ h. list_all-from_AllPass _ conclusions
+        ((second.holds z).1 (same.0 holds z
+        ((first.holds z).0 (AllPass-from_list_all _ premises h))))),
+    λ never. same.1 (λ z p. (second.holds z).0
+        (AllPass-from_list_all _ conclusions
+        ((not_both (all z premises) (all z conclusions)).0 (sym (made.gives.value z) ∙ never z)
+        (list_all-from_AllPass _ premises ((first.holds z).1 p))))),
+  );
+}
+  where
+    made : Gives base (make_refuting base premises conclusions)
+        (λ z. list_all (claim_value base z) premises
+        && not (list_all (claim_value base z) conclusions))
+    made = refuting_gives base are premises conclusions first.there second.there
+
+    all : (ℕ → Bool) → List Claim → Bool
+    all z = list_all (claim_value base z)
+
+    not_both : (a b : Bool) → ((a && not b) ≡ false) ↔ (IsTrue a → IsTrue b)
+    not_both true true = (λ e h. refl, λ f. refl)
+    not_both true false = (λ e h. sym e, λ f. sym (f refl))
+    not_both false b = (λ e h. absurd (false≢true h), λ f. refl)

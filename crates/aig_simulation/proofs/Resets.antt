@@ -1,8 +1,8 @@
 -- Tables of the initial edges of latches.
-use Rattle.aig_simulation.proofs.Words.{◌≡◌, ◌≢◌, ℕ, ◌+◌, ◌<◌, ◌⊎◌, Option, Some, None, List, [], ◌∷◌, ◌++◌, length, get_or, set, inl, inr, sym, ap, subst, ◌∙◌, arith, All, All-contains, All-contains_itself, All-filter, All-push, All-same, Contains, Contains-append_left, Contains-get_or, Contains-push, cases_eq, filter_passes, get_or-set_other, get_or-set_same, get_or-take, get_or_default, length-take, take_more, AigEdge, AigLatch, Circuit, AreResets, HoldsResets, reset_at, IsReset, own_among, IsOwn, Sharing}
+use Rattle.aig_simulation.proofs.Words.{AigEdge, AigLatch, All, All-contains, All-contains_itself, All-filter, All-push, All-same, AreResets, Circuit, Contains, Contains-append_left, Contains-get_or, Contains-push, HoldsResets, IsOwn, IsReset, List, None, Option, Sharing, Some, [], ap, arith, cases_eq, filter_passes, get_or, get_or-set_other, get_or-set_same, get_or-take, get_or_default, inl, inr, length, length-take, own_among, reset_at, set, subst, sym, take_more, ℕ, ◌++◌, ◌+◌, ◌<◌, ◌∙◌, ◌∷◌, ◌≡◌, ◌≢◌, ◌⊎◌}
 use Rattle.aig_base.proofs.Words.{take}
 use Rattle.aig_simulation.proofs.Constant.{AreApart}
-use Rattle.aig_simulation.proofs.Deciding.{filter_each, is_own, owns, passes}
+use Rattle.aig_simulation.proofs.Owned.{filter_each, is_own, owns, passes}
 
 abbrev Edges : Type 0
 Edges = List (Option AigEdge)

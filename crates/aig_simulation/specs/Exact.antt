@@ -1,6 +1,6 @@
 -- Part of what is promised.
 -- Which question it is, node by node. (Constants are folded; no gate is shared.)
-use Rattle.std.specs.Prelude.{ℕ, ◌==◌, false, true, if◌then◌else◌, is_none, option_map, Option, Some, None, List, [], ◌∷◌, ◌++◌, length, map, filter}
+use Rattle.std.specs.Prelude.{ℕ, ◌==◌, false, true, if◌then◌else◌, is_none, option_map, Option, Some, None, List, [], ◌∷◌, ◌++◌, length, filter}
 use Rattle.std.specs.FinMap.{empty}
 use Rattle.std.specs.Option.{option_or}
 use Rattle.aig_circuit.specs.declared.edge.AigEdge.{AigEdge}
@@ -15,8 +15,10 @@ use Rattle.aig_circuit.specs.Node.{and_of}
 use Rattle.aig_circuit.specs.Properties.{no_properties}
 use Rattle.aig_unroll.specs.Frame.{Frame, folded, frame_to, image_at, image_in, next_of}
 use Rattle.aig_unroll.specs.Places.{leaves_after}
-use Rattle.aig_simulation.specs.Asking.{Pair, move_pair, start_pair}
+use Rattle.aig_simulation.specs.Claims.{constraint_claims, good_claims, move_claims, start_claims}
 use Rattle.aig_simulation.specs.Simulation.{Sharing}
+use Rattle.aig_simulation.specs.declared.claims.Claim.{Claim}
+use Rattle.aig_simulation.specs.declared.claims.Claim.TheVariants.{Edge, Equal}
 use Rattle.aig_simulation.specs.declared.condition.Condition.{Condition}
 use Rattle.aig_simulation.specs.declared.condition.Condition.TheVariants.{Reset, Transition, Property, Base, Step}
 
@@ -73,10 +75,10 @@ abbrev pub make_and : List AigNode → AigEdge → AigEdge → Made
 make_and nodes a b = made_by (folded a b) (and_of a b) nodes
 
 -- both or neither
-abbrev pub make_equal : List AigNode → Pair → Made
-make_equal nodes p =
-    let both = make_and nodes p.0 p.1 in
-    let neither = make_and both.nodes (inverse p.0) (inverse p.1) in
+abbrev pub make_equal : List AigNode → AigEdge → AigEdge → Made
+make_equal nodes a b =
+    let both = make_and nodes a b in
+    let neither = make_and both.nodes (inverse a) (inverse b) in
     let differ = make_and neither.nodes (inverse both.edge) (inverse neither.edge) in
     made_in differ.nodes (inverse differ.edge)
 
@@ -88,16 +90,14 @@ make_ands made (e ∷ es) = make_ands (make_and made.nodes made.edge e) es
 abbrev pub make_all : List AigNode → List AigEdge → Made
 make_all nodes es = make_ands (made_in nodes (edge_to 0 true)) es
 
--- all premises, and not all conclusions
-abbrev pub make_refuting : List AigNode → List AigEdge → List AigEdge → Made
-make_refuting nodes premises conclusions =
-    let asked = make_all nodes premises in
-    let shown = make_all asked.nodes conclusions in
-    make_and shown.nodes asked.edge (inverse shown.edge)
+-- ---- claims
 
--- ---- states and steps
+-- the edge that is true where the claim holds
+abbrev pub make_claim : List AigNode → Claim → Made
+make_claim nodes (Edge e) = made_in nodes e
+make_claim nodes (Equal a b) = make_equal nodes a b
 
--- nodes, and edges in them that are to hold
+-- nodes, and edges in them
 pub record Listed : Type 0 where
   pub nodes : List AigNode
   pub edges : List AigEdge
@@ -109,99 +109,95 @@ listed_in nodes edges = record { nodes = nodes; edges = edges }
 abbrev pub with_made : List AigEdge → Made → Listed
 with_made edges made = listed_in made.nodes (edges ++ made.edge ∷ [])
 
--- for each pair an edge more: that its two are equal
-abbrev pub with_equal : Listed → List Pair → Listed
-with_equal listed [] = listed
-with_equal listed (p ∷ ps) = with_equal (with_made listed.edges (make_equal listed.nodes p)) ps
+-- the edges of claims, one after another
+abbrev pub with_claims : Listed → List Claim → Listed
+with_claims listed [] = listed
+with_claims listed (c ∷ cs) =
+    with_claims (with_made listed.edges (make_claim listed.nodes c)) cs
 
--- the constraints hold
-abbrev pub constraint_edges : Circuit → List AigEdge → List AigEdge
-constraint_edges c images = map (image_in images) c.properties.constraints
+-- all premises, and not all conclusions
+abbrev pub make_refuting : List AigNode → List Claim → List Claim → Made
+make_refuting nodes premises conclusions =
+    let given = with_claims (listed_in nodes []) premises in
+    let wanted = with_claims (listed_in given.nodes []) conclusions in
+    let asked = make_all wanted.nodes given.edges in
+    let shown = make_all asked.nodes wanted.edges in
+    make_and shown.nodes asked.edge (inverse shown.edge)
 
--- the latches start, and the constraints hold
-abbrev pub start_edges : List AigNode → Circuit → List AigEdge → Listed
-start_edges nodes c images =
-    let starts = with_equal (listed_in nodes []) (map (start_pair images) c.latchs) in
-    listed_in starts.nodes (starts.edges ++ constraint_edges c images)
+-- ---- what is asked of copies: x and next of the model, y and z of the witness circuit
 
--- the latches move, and the constraints hold after it
-abbrev pub move_edges : List AigNode → Circuit → List AigEdge → List AigEdge → Listed
-move_edges nodes c before after =
-    let moves = with_equal (listed_in nodes []) (map (move_pair before after) c.latchs) in
-    listed_in moves.nodes (moves.edges ++ constraint_edges c after)
+abbrev pub make_reset : List AigLatch → Circuit → Circuit → Frame → Frame → Made
+make_reset own model witness x y =
+    make_refuting y.nodes
+    (start_claims model.latchs x.images ++ constraint_claims model x.images
+    ++ start_claims own y.images)
+    (start_claims witness.latchs y.images ++ constraint_claims witness y.images)
 
--- no bad edge holds
-abbrev pub good_edges : Circuit → List AigEdge → List AigEdge
-good_edges c images = map (λ e. inverse (image_in images e)) c.properties.bads
+abbrev pub make_transition : Circuit → Circuit → Frame → Frame → Frame → Frame → Made
+make_transition model witness x y next z =
+    make_refuting z.nodes
+    (constraint_claims model x.images ++ constraint_claims model next.images
+    ++ constraint_claims witness y.images)
+    (move_claims witness y.images z.images ++ constraint_claims witness z.images)
 
--- ---- what is asked
+abbrev pub make_property : Circuit → Circuit → Frame → Frame → Made
+make_property model witness x y =
+    make_refuting y.nodes
+    (constraint_claims model x.images ++ constraint_claims witness y.images
+    ++ good_claims witness y.images)
+    (good_claims model x.images)
 
-abbrev pub make_reset : List AigNode → Circuit → Circuit → List AigLatch → List AigEdge
-    → List AigEdge → Made
-make_reset nodes model witness own x y =
-    let premises = with_equal (start_edges nodes model x) (map (start_pair y) own) in
-    let conclusions = start_edges premises.nodes witness y in
-    make_refuting conclusions.nodes premises.edges conclusions.edges
+abbrev pub make_base : Circuit → Frame → Made
+make_base witness y =
+    make_refuting y.nodes
+    (start_claims witness.latchs y.images ++ constraint_claims witness y.images)
+    (good_claims witness y.images)
 
-abbrev pub make_transition : List AigNode → Circuit → Circuit → List AigEdge → List AigEdge
-    → List AigEdge → List AigEdge → Made
-make_transition nodes model witness x next y z =
-    let conclusions = move_edges nodes witness y z in
-    make_refuting conclusions.nodes
-    (constraint_edges model x ++ constraint_edges model next ++ constraint_edges witness y)
-    conclusions.edges
-
-abbrev pub make_property : List AigNode → Circuit → Circuit → List AigEdge → List AigEdge → Made
-make_property nodes model witness x y =
-    make_refuting nodes
-    (constraint_edges model x ++ constraint_edges witness y ++ good_edges witness y)
-    (good_edges model x)
-
-abbrev pub make_base : List AigNode → Circuit → List AigEdge → Made
-make_base nodes witness y =
-    let premises = start_edges nodes witness y in
-    make_refuting premises.nodes premises.edges (good_edges witness y)
-
-abbrev pub make_step : List AigNode → Circuit → List AigEdge → List AigEdge → Made
-make_step nodes witness y z =
-    make_refuting nodes
-    (good_edges witness y ++ constraint_edges witness y ++ constraint_edges witness z)
-    (good_edges witness z)
+abbrev pub make_step : Circuit → Frame → Frame → Made
+make_step witness y z =
+    make_refuting z.nodes
+    (good_claims witness y.images ++ constraint_claims witness y.images
+    ++ constraint_claims witness z.images)
+    (good_claims witness z.images)
 
 -- ---- questions, each after copies of the circuits
+
+-- a copy of the witness circuit that shares leaves with that of the model
+abbrev pub beside : (ℕ → Option ℕ) → Circuit → Frame → Frame
+beside leaf witness x = copy_after x.nodes witness (shared_leaves leaf x.images no_leaf)
+
+-- a copy after a step of the circuit, and one that also shares leaves
+abbrev pub moved : Circuit → List AigEdge → List AigNode → Frame
+moved c before nodes = copy_after nodes c (next_leaves c.latchs before)
+
+abbrev pub moved_beside : (ℕ → Option ℕ) → Circuit → List AigEdge → Frame → Frame
+moved_beside leaf c before x =
+    copy_after x.nodes c (shared_leaves leaf x.images (next_leaves c.latchs before))
 
 abbrev pub asked_reset : List AigNode → (ℕ → Option ℕ) → Circuit → Circuit → Made
 asked_reset nodes leaf model witness =
     let x = copy_after nodes model no_leaf in
-    let y = copy_after x.nodes witness (shared_leaves leaf x.images no_leaf) in
-    make_reset y.nodes model witness (own_latches leaf witness.latchs) x.images y.images
+    make_reset (own_latches leaf witness.latchs) model witness x (beside leaf witness x)
 
 abbrev pub asked_transition : List AigNode → (ℕ → Option ℕ) → Circuit → Circuit → Made
 asked_transition nodes leaf model witness =
     let x = copy_after nodes model no_leaf in
-    let y = copy_after x.nodes witness (shared_leaves leaf x.images no_leaf) in
-    let next = copy_after y.nodes model (next_leaves model.latchs x.images) in
-    let z = copy_after next.nodes witness
-    (shared_leaves leaf next.images (next_leaves witness.latchs y.images))
-    in
-    make_transition z.nodes model witness x.images next.images y.images z.images
+    let y = beside leaf witness x in
+    let next = moved model x.images y.nodes in
+    make_transition model witness x y next (moved_beside leaf witness y.images next)
 
 abbrev pub asked_property : List AigNode → (ℕ → Option ℕ) → Circuit → Circuit → Made
 asked_property nodes leaf model witness =
     let x = copy_after nodes model no_leaf in
-    let y = copy_after x.nodes witness (shared_leaves leaf x.images no_leaf) in
-    make_property y.nodes model witness x.images y.images
+    make_property model witness x (beside leaf witness x)
 
 abbrev pub asked_base : List AigNode → Circuit → Made
-asked_base nodes witness =
-    let y = copy_after nodes witness no_leaf in
-    make_base y.nodes witness y.images
+asked_base nodes witness = make_base witness (copy_after nodes witness no_leaf)
 
 abbrev pub asked_step : List AigNode → Circuit → Made
 asked_step nodes witness =
     let y = copy_after nodes witness no_leaf in
-    let z = copy_after y.nodes witness (next_leaves witness.latchs y.images) in
-    make_step z.nodes witness y.images z.images
+    make_step witness y (moved witness y.images y.nodes)
 
 -- the edge that is never true exactly where the condition holds
 abbrev pub asked_of : Condition → List AigNode → (ℕ → Option ℕ) → Circuit → Circuit → Made

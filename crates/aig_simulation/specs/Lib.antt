@@ -1,9 +1,8 @@
 pub mod Simulation
 pub mod Stratified
 pub mod Questions
-pub mod Copies
 pub mod Frames
-pub mod Asking
+pub mod Claims
 pub mod Exact
 pub mod Names
 pub mod Named

@@ -31,7 +31,7 @@ fn own_resets(
     witness: &CircuitView<'_>,
     shared: &[(usize, usize)],
 ) -> Result<Vec<Option<AigEdge>>, MemoryError>
-    requires { All (λ p. p.1 < length witness.now.nodes) shared.now }
+    requires { All (λ p. IsLeaf witness.now.nodes p.1) shared.now }
     ensures { IfOk result (λ resets. AreResets shared.now witness.now resets.items) }
 {
     let own = own_latches(alloc, witness, shared)?;

@@ -1,12 +1,11 @@
 //! Copies of a circuit's nodes after other nodes, where some of its leaves are given as edges to these.
 
-ghost use Rattle.std.specs.Prelude.{◌≡◌, ◌<◌, ◌≤◌, ◌++◌, ◌∷◌, [], ℕ, IfOk, IfSome, Some, All, length};
-ghost use Rattle.aig_circuit.specs.Build.{Grows};
+ghost use Rattle.std.specs.Prelude.{◌≡◌, ◌<◌, ◌++◌, ◌∷◌, [], IfOk, IfSome, Some, All, length};
 ghost use Rattle.aig_circuit.specs.Circuit.{AreNodes, IsInRange};
 ghost use Rattle.aig_circuit.specs.Node.{IfAnd};
-ghost use Rattle.aig_simulation.specs.Copies.{Copies, CopiesNode, HasImage};
 ghost use Rattle.aig_simulation.specs.Exact.{frame_in};
-ghost use Rattle.aig_unroll.specs.Frame.{image_in, with_copy};
+ghost use Rattle.aig_simulation.specs.Frames.{HasImage, given_at};
+ghost use Rattle.aig_unroll.specs.Frame.{frame_to, image_in, with_copy};
 
 use aig_base::MemoryError;
 use aig_build::{new_and_node, new_leaf_node};
@@ -31,12 +30,7 @@ fn copy_node(
 ) -> Result<AigEdge, MemoryError>
     requires sound { AreNodes nodes.old.items }
     requires operands { IfAnd node.now.typ (HasImage nodes.old.items images.now) }
-    requires given { IfSome given (IsInRange nodes.old.items) }
-    ensures copies { IfOk result (λ e.
-        CopiesNode node.now.typ given images.now nodes.old.items nodes.new.items e) }
-    ensures edge { IfOk result (λ e. IsInRange nodes.new.items e) }
-    ensures grows { IfOk result (λ _. Grows nodes.old.items nodes.new.items) }
-    ensures exact { IfOk result (λ e. frame_in nodes.new.items (images.now ++ e ∷ [])
+    ensures { IfOk result (λ e. frame_in nodes.new.items (images.now ++ e ∷ [])
         ≡ with_copy given (Some node.now.typ) (frame_in nodes.old.items images.now)) }
 {
     match *node.typ() {
@@ -65,8 +59,10 @@ pub(crate) fn copy_nodes(
     requires source { AreNodes source.now }
     requires table { length given.now ≡ length source.now }
     requires there { All (λ g. IfSome g (IsInRange nodes.old.items)) given.now }
-    ensures { IfOk result (λ images. Copies source.now given.now nodes.old.items nodes.new.items
-        images.items (length source.now)) }
+    ensures sound { IfOk result (λ _. AreNodes nodes.new.items) }
+    ensures count { IfOk result (λ images. length images.items ≡ length source.now) }
+    ensures exact { IfOk result (λ images. frame_in nodes.new.items images.items
+        ≡ frame_to source.now (given_at given.now) nodes.old.items (length source.now)) }
 {
     let mut images = Vec::with_capacity(alloc, source.len())?;
     for (id, node) in source.iter().enumerate() {

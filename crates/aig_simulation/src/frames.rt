@@ -1,11 +1,11 @@
 //! Copies of a circuit in a question: one state of it, beside other copies.
 
 ghost use Rattle.std.specs.Prelude.{◌≡◌, ◌≢◌, ◌<◌, ℕ, IfOk, All, AllPairs, length};
+ghost use Rattle.std.specs.Option.{option_or};
 ghost use Rattle.aig_circuit.specs.Circuit.{AreNodes, IsCircuit, IsLatch, IsLeaf, latch_leaves};
-ghost use Rattle.aig_simulation.specs.Copies.{HasImage};
-ghost use Rattle.aig_simulation.specs.Frames.{GivesAll, IsFrame, MarksShared, own_among};
+ghost use Rattle.aig_simulation.specs.Exact.{copy_after, frame_in, model_leaf, next_leaves, shared_leaves};
+ghost use Rattle.aig_simulation.specs.Frames.{HasImage, MarksShared, given_at, own_among};
 ghost use Rattle.aig_simulation.specs.Simulation.{IsSharing};
-ghost use Rattle.aig_unroll.specs.Frame.{image_at, image_in};
 
 use crate::copying::{copy_nodes, image_of};
 use aig_base::MemoryError;
@@ -17,8 +17,8 @@ fn give_next(given: &mut [Option<AigEdge>], latchs: &[AigLatch], images: &[AigEd
     requires leaves { All (λ l. l.input < length given.old) latchs.now }
     requires next { All (λ l. l.next.node_id < length images.now) latchs.now }
     requires distinct { AllPairs (λ m n. m ≢ n) (latch_leaves latchs.now) }
-    ensures { GivesAll (λ l. l.input) (λ l. image_in images.now l.next) latchs.now
-        given.old given.new }
+    ensures { (n : ℕ) → given_at given.new n
+        ≡ option_or (next_leaves latchs.now images.now n) (given_at given.old n) }
 {
     for latch in latchs {
         given[latch.input()] = Some(image_of(images, latch.next()));
@@ -30,7 +30,8 @@ fn give_shared(given: &mut [Option<AigEdge>], shared: &[(usize, usize)], images:
     requires leaves { All (λ p. p.1 < length given.old) shared.now }
     requires images { All (λ p. p.0 < length images.now) shared.now }
     requires distinct { IsSharing shared.now }
-    ensures { GivesAll (λ p. p.1) (λ p. image_at images.now p.0) shared.now given.old given.new }
+    ensures { (n : ℕ) → given_at given.new n
+        ≡ shared_leaves (model_leaf shared.now) images.now (given_at given.old) n }
 {
     for pair in shared {
         given[pair.1] = Some(images[pair.0]);
@@ -55,8 +56,11 @@ pub(crate) fn copy_circuit(
     requires shared { All (λ p. IsLeaf circuit.now.nodes p.1) shared.now }
     requires others { All (λ p. HasImage nodes.old.items others.now p.0) shared.now }
     requires sharing { IsSharing shared.now }
-    ensures frame { IfOk result (λ images. IsFrame circuit.now latchs.now before.now shared.now
-        others.now nodes.old.items nodes.new.items images.items) }
+    ensures sound { IfOk result (λ _. AreNodes nodes.new.items) }
+    ensures count { IfOk result (λ images. length images.items ≡ length circuit.now.nodes) }
+    ensures exact { IfOk result (λ images. frame_in nodes.new.items images.items
+        ≡ copy_after nodes.old.items circuit.now
+        (shared_leaves (model_leaf shared.now) others.now (next_leaves latchs.now before.now))) }
     ensures circuit { IsCircuit circuit.now }
 {
     let mut given = vec![in alloc; None; circuit.nodes().len()]?;
@@ -81,8 +85,9 @@ pub(crate) fn own_latches(
     witness: &CircuitView<'_>,
     shared: &[(usize, usize)],
 ) -> Result<Vec<AigLatch>, MemoryError>
-    requires { All (λ p. p.1 < length witness.now.nodes) shared.now }
-    ensures { IfOk result (λ own. own.items ≡ own_among shared.now witness.now.latchs) }
+    requires { All (λ p. IsLeaf witness.now.nodes p.1) shared.now }
+    ensures exact { IfOk result (λ own. own.items ≡ own_among shared.now witness.now.latchs) }
+    ensures latchs { IfOk result (λ own. All (IsLatch witness.now.nodes) own.items) }
 {
     let mut marks = vec![in alloc; false; witness.nodes().len()]?;
     mark_shared(&mut marks, shared);

@@ -1,11 +1,10 @@
 //! Witness circuits that simulate a model, and which of their leaves stand for leaves of it.
 #![tactic(auto)]
 
-mod asking;
 mod circles;
+mod claims;
 mod condition;
 mod copying;
-mod edges;
 mod error;
 mod frames;
 mod questions;

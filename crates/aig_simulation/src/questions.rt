@@ -1,17 +1,16 @@
 //! The questions as circuits.
 
 ghost use Rattle.std.specs.Prelude.{◌≡◌, ◌<◌, ◌≤◌, IfErr, IfOk, IsErrOf, length, map, filter};
-ghost use Rattle.aig_circuit.specs.Circuit.{AreNodes, Circuit};
+ghost use Rattle.aig_circuit.specs.Circuit.{AreNodes, Circuit, IsCircuit};
 ghost use Rattle.aig_circuit.specs.View.{lists_circuit};
-ghost use Rattle.aig_simulation.specs.Asking.{AsksWhether};
 ghost use Rattle.aig_simulation.specs.Exact.{asked_base, asked_of, asked_property, asked_reset, asked_step, asked_transition, made_in, model_leaf, question_of, with_bad};
+ghost use Rattle.aig_simulation.specs.Frames.{AreCircuits};
 ghost use Rattle.aig_simulation.specs.Questions.{AsksIf, CanShareLeaves, Holds};
-ghost use Rattle.aig_simulation.specs.Simulation.{BaseHolds, PropertyHolds, ResetHolds, StepHolds, TransitionHolds};
 ghost use Rattle.aig_simulation.specs.declared.condition.Condition.TheVariants as conditions;
 ghost use Rattle.aig_simulation.specs.declared.error.QuestionError.TheVariants as errors;
 ghost use Rattle.aig_unroll.specs.Places.{leaves_after};
 
-use crate::asking::{ask_base, ask_property, ask_reset, ask_step, ask_transition};
+use crate::claims::{push_constraints, push_good, push_moves, push_starts, refuting_edge};
 use crate::condition::Condition;
 use crate::error::QuestionError;
 use crate::frames::{copy_circuit, own_latches};
@@ -30,15 +29,21 @@ fn reset(
 ) -> Result<AigEdge, MemoryError>
     requires sound { AreNodes nodes.old.items }
     requires shared { CanShareLeaves shared.now model.now witness.now }
-    ensures asks { IfOk result (AsksWhether (ResetHolds shared.now model.now witness.now)
-        nodes.old.items nodes.new.items) }
     ensures exact { IfOk result (λ e. made_in nodes.new.items e
         ≡ asked_reset nodes.old.items (model_leaf shared.now) model.now witness.now) }
+    ensures circuit { IfOk result (λ _. IsCircuit model.now × IsCircuit witness.now) }
 {
     let x = copy_circuit(alloc, nodes, model, &[], &[], &[], &[])?;
     let y = copy_circuit(alloc, nodes, witness, &[], &[], shared, &x)?;
     let own = own_latches(alloc, witness, shared)?;
-    ask_reset(alloc, nodes, model, witness, &own, &x, &y)
+    let mut premises = Vec::new(alloc);
+    push_starts(&mut premises, model.latchs(), &x)?;
+    push_constraints(&mut premises, model, &x)?;
+    push_starts(&mut premises, &own, &y)?;
+    let mut conclusions = Vec::new(alloc);
+    push_starts(&mut conclusions, witness.latchs(), &y)?;
+    push_constraints(&mut conclusions, witness, &y)?;
+    refuting_edge(alloc, nodes, &premises, &conclusions)
 }
 
 /// The edge that is never true exactly where the steps fit.
@@ -51,16 +56,22 @@ fn transition(
 ) -> Result<AigEdge, MemoryError>
     requires sound { AreNodes nodes.old.items }
     requires shared { CanShareLeaves shared.now model.now witness.now }
-    ensures asks { IfOk result (AsksWhether (TransitionHolds shared.now model.now witness.now)
-        nodes.old.items nodes.new.items) }
     ensures exact { IfOk result (λ e. made_in nodes.new.items e
         ≡ asked_transition nodes.old.items (model_leaf shared.now) model.now witness.now) }
+    ensures circuit { IfOk result (λ _. IsCircuit model.now × IsCircuit witness.now) }
 {
     let x = copy_circuit(alloc, nodes, model, &[], &[], &[], &[])?;
     let y = copy_circuit(alloc, nodes, witness, &[], &[], shared, &x)?;
     let next = copy_circuit(alloc, nodes, model, model.latchs(), &x, &[], &[])?;
     let z = copy_circuit(alloc, nodes, witness, witness.latchs(), &y, shared, &next)?;
-    ask_transition(alloc, nodes, model, witness, &x, &next, &y, &z)
+    let mut premises = Vec::new(alloc);
+    push_constraints(&mut premises, model, &x)?;
+    push_constraints(&mut premises, model, &next)?;
+    push_constraints(&mut premises, witness, &y)?;
+    let mut conclusions = Vec::new(alloc);
+    push_moves(&mut conclusions, witness, &y, &z)?;
+    push_constraints(&mut conclusions, witness, &z)?;
+    refuting_edge(alloc, nodes, &premises, &conclusions)
 }
 
 /// The edge that is never true exactly where the properties fit.
@@ -73,14 +84,19 @@ fn property(
 ) -> Result<AigEdge, MemoryError>
     requires sound { AreNodes nodes.old.items }
     requires shared { CanShareLeaves shared.now model.now witness.now }
-    ensures asks { IfOk result (AsksWhether (PropertyHolds shared.now model.now witness.now)
-        nodes.old.items nodes.new.items) }
     ensures exact { IfOk result (λ e. made_in nodes.new.items e
         ≡ asked_property nodes.old.items (model_leaf shared.now) model.now witness.now) }
+    ensures circuit { IfOk result (λ _. IsCircuit model.now × IsCircuit witness.now) }
 {
     let x = copy_circuit(alloc, nodes, model, &[], &[], &[], &[])?;
     let y = copy_circuit(alloc, nodes, witness, &[], &[], shared, &x)?;
-    ask_property(alloc, nodes, model, witness, &x, &y)
+    let mut premises = Vec::new(alloc);
+    push_constraints(&mut premises, model, &x)?;
+    push_constraints(&mut premises, witness, &y)?;
+    push_good(&mut premises, witness, &y)?;
+    let mut conclusions = Vec::new(alloc);
+    push_good(&mut conclusions, model, &x)?;
+    refuting_edge(alloc, nodes, &premises, &conclusions)
 }
 
 /// The edge that is never true exactly where initial states are good.
@@ -90,13 +106,17 @@ fn base(
     witness: &CircuitView<'_>,
 ) -> Result<AigEdge, MemoryError>
     requires { AreNodes nodes.old.items }
-    ensures asks { IfOk result
-        (AsksWhether (BaseHolds witness.now) nodes.old.items nodes.new.items) }
     ensures exact { IfOk result (λ e. made_in nodes.new.items e
         ≡ asked_base nodes.old.items witness.now) }
+    ensures circuit { IfOk result (λ _. IsCircuit witness.now) }
 {
     let y = copy_circuit(alloc, nodes, witness, &[], &[], &[], &[])?;
-    ask_base(alloc, nodes, witness, &y)
+    let mut premises = Vec::new(alloc);
+    push_starts(&mut premises, witness.latchs(), &y)?;
+    push_constraints(&mut premises, witness, &y)?;
+    let mut conclusions = Vec::new(alloc);
+    push_good(&mut conclusions, witness, &y)?;
+    refuting_edge(alloc, nodes, &premises, &conclusions)
 }
 
 /// The edge that is never true exactly where steps lead from good states to good ones.
@@ -106,14 +126,19 @@ fn step(
     witness: &CircuitView<'_>,
 ) -> Result<AigEdge, MemoryError>
     requires { AreNodes nodes.old.items }
-    ensures asks { IfOk result
-        (AsksWhether (StepHolds witness.now) nodes.old.items nodes.new.items) }
     ensures exact { IfOk result (λ e. made_in nodes.new.items e
         ≡ asked_step nodes.old.items witness.now) }
+    ensures circuit { IfOk result (λ _. IsCircuit witness.now) }
 {
     let y = copy_circuit(alloc, nodes, witness, &[], &[], &[], &[])?;
     let z = copy_circuit(alloc, nodes, witness, witness.latchs(), &y, &[], &[])?;
-    ask_step(alloc, nodes, witness, &y, &z)
+    let mut premises = Vec::new(alloc);
+    push_good(&mut premises, witness, &y)?;
+    push_constraints(&mut premises, witness, &y)?;
+    push_constraints(&mut premises, witness, &z)?;
+    let mut conclusions = Vec::new(alloc);
+    push_good(&mut conclusions, witness, &z)?;
+    refuting_edge(alloc, nodes, &premises, &conclusions)
 }
 
 /// The edge that is never true exactly where the condition holds.
@@ -127,10 +152,9 @@ fn asking_edge(
 ) -> Result<AigEdge, MemoryError>
     requires sound { AreNodes nodes.old.items }
     requires shared { CanShareLeaves shared.now model.now witness.now }
-    ensures asks { IfOk result (AsksWhether (Holds condition shared.now model.now witness.now)
-        nodes.old.items nodes.new.items) }
     ensures exact { IfOk result (λ e. made_in nodes.new.items e
         ≡ asked_of condition nodes.old.items (model_leaf shared.now) model.now witness.now) }
+    ensures circuit { IfOk result (λ _. AreCircuits condition model.now witness.now) }
 {
     match condition {
         Condition::Reset => reset(alloc, nodes, model, witness, shared),
@@ -179,10 +203,9 @@ fn whole_question(
     shared: &[(usize, usize)],
 ) -> Result<CircuitLists, MemoryError>
     requires { CanShareLeaves shared.now model.now witness.now }
-    ensures asks { IfOk result (λ lists.
-        AsksIf (Holds condition shared.now model.now witness.now) (lists_circuit lists)) }
     ensures exact { IfOk result (λ lists. lists_circuit lists
         ≡ question_of condition (model_leaf shared.now) model.now witness.now) }
+    ensures circuit { IfOk result (λ _. AreCircuits condition model.now witness.now) }
 {
     let mut nodes = Vec::new(alloc);
     nodes.push(false_node())?;

@@ -3,9 +3,8 @@
 
 use aig_check_commands::{USAGE, act, advise, explain, notice};
 pub use aig_check_commands::{
-    CheckError, Command, FileCommand, Goal, PairCommand, parse, print_bounded, print_certified,
-    print_checked, print_clauses, print_equal, print_obligations, print_run, print_window,
-    print_witness, print_witness_to,
+    CheckError, Command, FileCommand, PairCommand, parse, print_checked, print_obligations,
+    print_question, print_run, print_witness, print_witness_to,
 };
 use aig_command_line::{
     FlushedWriter, StandardError, SystemFiles, Watch, WatchedFiles, end, words,

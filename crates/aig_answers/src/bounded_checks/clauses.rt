@@ -1,26 +1,23 @@
 //! The clauses of a bounded check.
 
 ghost use Rattle.std.specs.Prelude.{◌≡◌, ◌↔◌, ◌<◌, ◌≤◌, ◌^◌, All, IfErr, IfOk, IsErrOf, IsTrue, length};
-ghost use Rattle.aig_base.specs.Clauses.{AreBelow};
 ghost use Rattle.aig_circuit.specs.Circuit.{IsCircuit, IsClosed};
 ghost use Rattle.aig_circuit.specs.Edges.{HasConstantInit};
 ghost use Rattle.aig_runs.specs.Queries.{unit_clauses};
 ghost use Rattle.aig_circuit.specs.View.{lists_circuit};
-ghost use Rattle.aig_reader.specs.Reading.{IsReadAs};
-ghost use Rattle.aig_reader.specs.Verdicts.{Judges, verdict_by};
+ghost use Rattle.aig_reader.specs.Verdicts.{verdict_by};
 ghost use Rattle.aig_bounded.specs.Question.{question_size};
-ghost use Rattle.aig_answers.specs.Asking.{AsksBounded, IsAskedWithin, IsOfQuestion, IsSaidOfBads, IsSettled, TellsOfSize, bounded_verdict, verdict_of};
+ghost use Rattle.aig_answers.specs.Asking.{IsOfQuestion, IsSaidOfBads, IsSettled, verdict_of};
 ghost use Rattle.aig_answers.specs.Encoded.{IsEncoded, IsEncodedQuestion};
 ghost use Rattle.aig_answers.specs.Plans.{clauses_only};
 
 use crate::bounded_checks::error::BoundedAnswerError;
 use crate::bounded_checks::naming::{Named, name_places};
 use crate::windows::WindowClauses;
-use aig_base::{DagCnf, LitVvec, MemoryError, Source};
+use aig_base::{DagCnf, LitVvec, MemoryError};
 use aig_bounded::{BoundedCircuit, BoundedError, bounded_question};
 use aig_circuit::{CircuitLists, CircuitView};
 use aig_cnf::encode;
-use aig_reader::read;
 use aig_runs::push_units;
 use std::alloc::Global;
 
@@ -151,35 +148,4 @@ pub(crate) fn ask_lists(
     }
     let circuit = CircuitView::new(lists);
     Ok(ask_circuit(alloc, &circuit, limit, last, optimize)?)
-}
-
-/// Reads a circuit from the bytes of an AIGER file, and makes the clauses of one question: whether some bad state is
-/// reached, within the constraints, at a step from 0 to `k` on a run from an initial state. The further clause is that the
-/// question's output is true. A file without bad state properties is refused, as nothing is asked of it. Requires
-/// `1 <= limit <= 2^31`.
-pub fn bounded<R: Source>(
-    alloc: Global,
-    r: &mut R,
-    limit: usize,
-    k: usize,
-    optimize: bool,
-) -> Result<BoundedClauses, BoundedAnswerError>
-    requires some { 1 ≤ limit }
-    requires few { limit ≤ 2 ^ 31 }
-    // The bytes that were read are a file within the limit, with a bad literal, and the clauses are those of its question.
-    ensures answer { IfOk result (IsReadAs (IsAskedWithin limit) (λ f. AsksBounded f k optimize)
-        (R.left r.old) (R.left r.new)) }
-    // The further clause is of variables that are there.
-    ensures below { IfOk result (λ made. AreBelow (length made.clauses) made.extra) }
-    // A file is refused exactly where it isn't within the limit or has no bad literal, and a refusal says why.
-    ensures verdict { Judges bounded_verdict limit (R.left r.old) (R.left r.new) (R.failed r.new)
-        (verdict_by verdict_of result) }
-    ensures own { IfErr result IsOfQuestion }
-    // A question is too large only where its bound passes the limit.
-    ensures large { IfErr result (TellsOfSize limit (λ c. question_size c k)
-        (R.left r.old) (R.left r.new)) }
-{
-    let lists = read(alloc, r, limit)?;
-    let made = ask_lists(alloc, &lists, limit, k, optimize)?;
-    Ok(made)
 }

@@ -1,6 +1,6 @@
 //! The clauses that the proofs of a certificate are of.
 
-ghost use Rattle.std.specs.Prelude.{◌^◌, ◌≤◌, IfOk, length};
+ghost use Rattle.std.specs.Prelude.{◌^◌, ◌≤◌, IfOk};
 ghost use Rattle.aig_answers.specs.Answers.{AreWrittenFrom};
 ghost use Rattle.aig_answers.specs.Certificates.{IsOfClauses, Obliges, first_verdict, second_verdict};
 ghost use Rattle.aig_answers.specs.PairParts.{AsksBoth};
@@ -17,7 +17,7 @@ use aig_edits::{Pairing, read_joint};
 use aig_runs::Unrolled;
 use std::alloc::Global;
 
-/// What the clauses are written from that the proofs of `check_certified` are of.
+/// What the clauses are written from that the proofs of a certificate are of (`check_goal`).
 pub struct Obligations {
     /// The joint circuit, with no further step.
     pub joint: Unrolled,
@@ -73,8 +73,8 @@ fn ask_both(
     }
 }
 
-/// Reads two files in the AIGER format, a file and its certificate, and makes what the clauses are written from that the proofs of
-/// `check_certified` are of: `base` of the query of the joint circuit for step 0, and `step` of its plain window of two steps. No
+/// Reads two files in the AIGER format, a file and its certificate, and makes what the clauses are written from that the proofs of the
+/// certificate are of (`check_goal`): `base` of the query of the joint circuit for step 0, and `step` of its plain window of two steps. No
 /// list of the clauses of gates is made. Requires `1 <= limit <= 2^31`.
 ///
 /// # Errors

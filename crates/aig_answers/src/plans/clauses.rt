@@ -1,15 +1,15 @@
 //! The clauses of a question.
 
-ghost use Rattle.std.specs.Prelude.{◌≡◌, ◌<◌, ◌≤◌, ◌^◌, All, IfOk, IsErrOf, length};
-ghost use Rattle.aig_bounded.specs.Question.{question_size};
-ghost use Rattle.aig_circuit.specs.Circuit.{IsCircuit, IsClosed};
-ghost use Rattle.aig_circuit.specs.Edges.{HasConstantInit};
+ghost use Rattle.std.specs.Prelude.{◌≡◌, ◌≤◌, ◌^◌, IfOk, IsErrOf, length};
+ghost use Rattle.aig_base.specs.Clauses.{AreBelow};
+ghost use Rattle.aig_circuit.specs.Circuit.{IsCircuit};
 ghost use Rattle.aig_circuit.specs.View.{lists_circuit};
 ghost use Rattle.aig_unroll.specs.Places.{unrolled_size};
+ghost use Rattle.aig_answers.specs.Asking.{AsksOfBads};
 ghost use Rattle.aig_answers.specs.Plans.{Asks, CanBeAsked, HasRoom, IsTooLarge, Makes};
 ghost use Rattle.aig_answers.specs.declared.plans.asking.Ask.TheVariants as asks;
 
-use crate::bounded_checks::ask_circuit;
+use crate::bounded_checks::{BoundedClauses, ask_circuit};
 use crate::plans::asking::Ask;
 use crate::unrolled::query_between;
 use crate::windows::{WindowClauses, window_clauses};
@@ -53,7 +53,32 @@ fn step_clauses(
     query_between(alloc, circuit, k, &CircuitView::new(&unrolled), optimize)
 }
 
-/// Those that ask for one at the first steps, if any are needed.
+/// The clauses that ask for one at the first steps, and what the inputs of their question stand for, whether any clauses are needed or
+/// not.
+///
+/// # Errors
+///
+/// - `TooLarge`: more than `limit` nodes are made.
+/// - `Memory`: memory was refused.
+pub fn first_question(
+    alloc: Global,
+    circuit: &CircuitView<'_>,
+    limit: usize,
+    k: usize,
+    optimize: bool,
+) -> Result<BoundedClauses, BoundedError>
+    requires asked { CanBeAsked limit (asks.UpTo k) circuit.now }
+    requires few { limit ≤ 2 ^ 31 }
+    ensures asks { IfOk result (AsksOfBads circuit.now k optimize) }
+    // The further clause is of variables that are there.
+    ensures below { IfOk result (λ made. AreBelow (length made.clauses) made.extra) }
+    ensures large { IsErrOf result BoundedError.TooLarge → IsTooLarge limit (asks.UpTo k)
+        circuit.now }
+{
+    ask_circuit(alloc, circuit, limit, k, optimize)
+}
+
+/// Those clauses alone, if any are needed.
 fn first_clauses(
     alloc: Global,
     circuit: &CircuitView<'_>,
@@ -61,14 +86,13 @@ fn first_clauses(
     k: usize,
     optimize: bool,
 ) -> Result<Option<WindowClauses>, BoundedError>
-    requires closed { IsClosed circuit.now }
-    requires starts { All HasConstantInit circuit.now.latchs }
-    requires some { 1 ≤ limit }
+    requires asked { CanBeAsked limit (asks.UpTo k) circuit.now }
     requires few { limit ≤ 2 ^ 31 }
     ensures makes { IfOk result (Makes (asks.UpTo k) optimize circuit.now) }
-    ensures large { IsErrOf result BoundedError.TooLarge → limit < question_size circuit.now k }
+    ensures large { IsErrOf result BoundedError.TooLarge → IsTooLarge limit (asks.UpTo k)
+        circuit.now }
 {
-    let made = ask_circuit(alloc, circuit, limit, k, optimize)?;
+    let made = first_question(alloc, circuit, limit, k, optimize)?;
     if made.is_settled() {
         return Ok(None);
     }

@@ -1,14 +1,10 @@
 //! Why a plan isn't shown to hold.
 
 ghost use Rattle.std.specs.Prelude.{◌≡◌};
-ghost use Rattle.aig_answers.specs.PlanWords.{answer_error, answer_of, bounded_error, bounded_of};
 ghost use Rattle.aig_answers.specs.declared.plans.errors.PlanError.TheVariants as errors;
 ghost use Rattle.aig_answers.specs.declared.plans.errors.Why.TheVariants as whys;
 
-use crate::bounded_checks::BoundedAnswerError;
-use crate::error::AnswerError;
 use aig_bounded::BoundedError;
-use aig_encode::EncodeError;
 use aig_refutation::RefutationError;
 use thiserror::Error;
 
@@ -39,14 +35,14 @@ pub enum PlanError {
     /// The circuit has no bad edge, so that nothing is asked.
     #[error("no bad state property (aigedit bads makes outputs such)")]
     NoBads,
-    /// The circuit has more nodes than the limit, and so with further steps.
+    /// The circuit has more nodes than the limit.
     #[error("too many variables")]
     TooMany,
     /// The circuit with the further steps of the question at this place may pass the limit.
-    #[error("question {0}: unrolled circuit may pass the limit")]
+    #[error("unrolled circuit may pass the limit")]
     TooLarge(usize),
     /// With the variables that tell states apart the question at this place may pass the limit.
-    #[error("question {0}: window may pass the limit")]
+    #[error("window may pass the limit")]
     Crowded(usize),
     /// A question isn't shown to hold.
     #[error(transparent)]
@@ -74,47 +70,5 @@ impl From<Refused> for PlanError {
 
     fn from(error: Refused) -> PlanError {
         PlanError::Refused(error)
-    }
-}
-
-impl From<Why> for BoundedAnswerError {
-    ghost from_gives = { λ e r. r ≡ bounded_error e };
-
-    fn from(error: Why) -> BoundedAnswerError {
-        match error {
-            Why::Clauses(error) => BoundedAnswerError::Question(error),
-            Why::Refutation(error) => BoundedAnswerError::Refutation(error),
-        }
-    }
-}
-
-impl From<Why> for AnswerError {
-    ghost from_gives = { λ e r. r ≡ answer_error e };
-
-    fn from(error: Why) -> AnswerError {
-        match error {
-            Why::Clauses(_) => AnswerError::Encode(EncodeError::Memory),
-            Why::Refutation(error) => AnswerError::Refutation(error),
-        }
-    }
-}
-
-/// An answer to a question, as one about a step or a window.
-pub(crate) fn answer(told: Result<(), Why>) -> Result<(), AnswerError>
-    ensures { result ≡ answer_of told }
-{
-    match told {
-        Ok(()) => Ok(()),
-        Err(why) => Err(AnswerError::from(why)),
-    }
-}
-
-/// An answer to a question, as one about the first steps.
-pub(crate) fn bounded_answer(told: Result<(), Why>) -> Result<(), BoundedAnswerError>
-    ensures { result ≡ bounded_of told }
-{
-    match told {
-        Ok(()) => Ok(()),
-        Err(why) => Err(BoundedAnswerError::from(why)),
     }
 }

@@ -1,13 +1,13 @@
 //! Laws of questions and of plans.
 
-ghost use Rattle.std.specs.Prelude.{◌≡◌, ℕ, All, Bool, List, Option};
+ghost use Rattle.std.specs.Prelude.{◌≡◌, ℕ, All, Bool, List, Ok, Option};
 ghost use Rattle.aig_circuit.specs.Circuit.{Circuit, IsCircuit};
 ghost use Rattle.aig_format.specs.File.{File};
 ghost use Rattle.aig_format.specs.Fits.{Fits};
 ghost use Rattle.aig_runs.specs.Queries.{IsSafeTo};
 ghost use Rattle.aig_runs.specs.declared.window.Window.{Window};
 ghost use Rattle.aig_answers.specs.Answers.{IsCircuitOf};
-ghost use Rattle.aig_answers.specs.Plans.{AreRefuted, Covers, Holds, Makes};
+ghost use Rattle.aig_answers.specs.Plans.{AreRefuted, Covers, HasRoom, Holds, Makes, room_of};
 ghost use Rattle.aig_answers.specs.declared.plans.asking.Ask.{Ask};
 ghost use Rattle.aig_answers.specs.declared.plans.asking.Ask.TheVariants as asks;
 ghost use Rattle.aig_answers.specs.declared.plans.asking.Question.{Question};
@@ -65,4 +65,10 @@ pub fn command_plans_cover()
     ensures each { (k : ℕ) (form : Window) (base step : Bool)
         → Covers (plan_each k form base step) }
     ensures certified { (optimize : Bool) → Covers (plan_certified optimize) }
+{}
+
+/// Law: where a circuit isn't refused for its size, there is room for each question of a plan.
+pub fn plans_have_room()
+    ensures { (limit : ℕ) (plan : List Question) (c : Circuit) → room_of limit plan c ≡ Ok tt
+        → All (λ q. HasRoom limit q.ask c) plan }
 {}

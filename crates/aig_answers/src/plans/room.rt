@@ -51,11 +51,11 @@ fn first_over(
 ///
 /// The first that applies of these:
 ///
-/// - `TooMany`, `TooLarge`: by its bound the circuit with a question's further steps has more nodes than the limit: as it has itself,
-///   or else the first such question is named.
+/// - `TooMany`: the circuit has more nodes than the limit.
+/// - `TooLarge`: by its bound the circuit with the further steps of this question, the first such one, has more.
 /// - `NoBads`: there is no bad edge.
 /// - `Crowded`: with the variables that tell states apart this question, the first such one, may pass the limit.
-pub(crate) fn check_room(
+pub fn check_room(
     circuit: &CircuitView<'_>,
     limit: usize,
     plan: &[Question],
@@ -63,10 +63,10 @@ pub(crate) fn check_room(
     requires { All (λ q. CanBeAsked limit q.ask circuit.now) plan.now }
     ensures { result ≡ room_of limit plan.now circuit.now }
 {
+    if limit < circuit.nodes().len() {
+        return Err(PlanError::TooMany);
+    }
     if let Some(index) = first_over(circuit, limit, plan, true) {
-        if limit < circuit.nodes().len() {
-            return Err(PlanError::TooMany);
-        }
         return Err(PlanError::TooLarge(index));
     }
     if circuit.bads().is_empty() {

@@ -1,10 +1,8 @@
 //! Proofs of what another call prints, and programs on files in memory.
 
 use crate::instances::{Files, printed_of_check, printed_of_compress};
-use crate::taking::{
-    taken_as_equal, taken_at_step, taken_of_certificate, taken_of_window, taken_up_to_step,
-};
-use aig_runs::Window;
+use crate::taking::{taken_as_equal, taken_of_certificate, taken_of_question};
+use aig_answers::{Ask, Window, asked_with};
 use std::alloc::Global;
 
 /// A latch that stays 0, and is bad where it is 1.
@@ -19,17 +17,18 @@ const BOTH: &[u8] = b"aag 3 2 0 0 1 2\n2\n4\n6\n2\n6 4 2\n";
 fn takes_proofs_of_what_is_printed(rt: HostRuntime) {
     let alloc = rt.alloc();
     let none = b"".as_slice();
-    let step = taken_at_step(alloc, STUCK, 0, true, none);
+    let step = taken_of_question(alloc, STUCK, asked_with(true, Ask::Step(0)), none);
     assert!(rt; matches!(&step, Ok((_, Ok(())))));
-    let window = taken_of_window(alloc, STUCK, 0, Window::Plain, false, none);
+    let window = asked_with(false, Ask::Window(0, Window::Plain));
+    let window = taken_of_question(alloc, STUCK, window, none);
     assert!(rt; matches!(&window, Ok((_, Ok(())))));
     let certificate = taken_of_certificate(alloc, STUCK, STUCK, true, none, none);
     assert!(rt; matches!(&certificate, Ok((_, Ok(())))));
     let equal = taken_as_equal(alloc, STUCK, STUCK, 0, true, none);
     assert!(rt; matches!(&equal, Ok((_, Ok(())))));
-    let stays = taken_up_to_step(alloc, STUCK, 1, true, none);
+    let stays = taken_of_question(alloc, STUCK, asked_with(true, Ask::UpTo(1)), none);
     assert!(rt; matches!(&stays, Ok((_, Ok(())))));
-    let reached = taken_up_to_step(alloc, BOTH, 1, true, none);
+    let reached = taken_of_question(alloc, BOTH, asked_with(true, Ask::UpTo(1)), none);
     assert!(rt; matches!(&reached, Ok((_, Err(_)))));
 }
 

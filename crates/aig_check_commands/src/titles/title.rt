@@ -4,46 +4,29 @@ ghost use Rattle.std.specs.Prelude.{◌≡◌, ◌++◌, ◌∷◌, [], codes, d
 ghost use Rattle.hex.specs.Hex.{encode_lower};
 ghost use Rattle.aig_output.specs.Sinks.{BuffersOrStops, WritesOrStops};
 ghost use Rattle.aig_simulation.specs.Names.{condition_name};
-ghost use Rattle.aig_check_commands.specs.Titles.{beside_text, distinct_text, question_text, raw_text, title_text};
+ghost use Rattle.aig_check_commands.specs.Titles.{asked_text, beside_text, form_text, raw_text, title_text, topic_text};
 
+use aig_answers::{Ask, Window};
 use aig_base::{Sink, StreamFault};
 use aig_output::OutputBuffer;
 use aig_simulated::Condition;
 
 /// What clauses ask.
 #[derive(Clone, Copy)]
-pub enum Question {
-    /// For a bad state at step `k`.
-    Clauses {
-        /// The step.
-        k: usize,
-    },
-    /// For a window of `k + 2` steps with a bad state first at its end.
-    Window {
-        /// How many steps come before the last two.
-        k: usize,
-        /// Whether no state comes twice on it.
-        distinct: bool,
-    },
-    /// For a bad state up to step `k`.
-    Bounded {
-        /// The step.
-        k: usize,
-    },
+pub enum Topic {
+    /// A question of a circuit.
+    Asked(Ask),
     /// For what the proofs of a certificate exclude.
     Obligations,
     /// For what breaks a condition of a witness circuit.
-    Obligation {
-        /// The condition.
-        condition: Condition,
-    },
+    Obligation(Condition),
 }
 
 /// The title of clauses.
 #[derive(Clone, Copy)]
 pub struct Title {
     /// What they ask.
-    pub question: Question,
+    pub topic: Topic,
     /// Whether exclusive ors and choices have clauses of their own.
     pub optimize: bool,
     /// The SHA-256 sum of the file.
@@ -62,10 +45,13 @@ fn hex_of(sum: &[u8; 32]) -> [u8; 64]
 }
 
 /// The word of windows on which no state comes twice.
-fn distinct_word(distinct: bool) -> &'static [u8]
-    ensures { result.now ≡ distinct_text distinct }
+fn form_word(form: Window) -> &'static [u8]
+    ensures { result.now ≡ form_text form }
 {
-    if distinct { b"distinct " } else { b"" }
+    match form {
+        Window::Plain => b"",
+        Window::Distinct => b"distinct ",
+    }
 }
 
 /// The word of clauses without those of exclusive ors and choices.
@@ -81,14 +67,14 @@ fn buffer_numbered<W: Sink>(
     w: &mut W,
     name: &[u8],
     k: usize,
-    distinct: bool,
+    form: Window,
 ) -> Result<(), StreamFault>
-    ensures { let text = name.now ++ (decimal k ++ 32 ∷ []) ++ distinct_text distinct in
+    ensures { let text = name.now ++ (decimal k ++ 32 ∷ []) ++ form_text form in
         BuffersOrStops W.held W.failed buffer.old w.old result text buffer.new w.new }
 {
     buffer.write_bytes(w, name)?;
     buffer.write_number(w, k, b' ')?;
-    buffer.write_bytes(w, distinct_word(distinct))
+    buffer.write_bytes(w, form_word(form))
 }
 
 /// Buffers the words of a question for what breaks a condition.
@@ -105,21 +91,31 @@ fn buffer_condition<W: Sink>(
     buffer.write_bytes(w, b" ")
 }
 
-/// Buffers the words of a question.
-fn buffer_question<W: Sink>(
-    buffer: &mut OutputBuffer,
-    w: &mut W,
-    question: Question,
-) -> Result<(), StreamFault>
-    ensures { let text = question_text question in
+/// Buffers the words of a question of a circuit.
+fn buffer_asked<W: Sink>(buffer: &mut OutputBuffer, w: &mut W, ask: Ask) -> Result<(), StreamFault>
+    ensures { let text = asked_text ask in
         BuffersOrStops W.held W.failed buffer.old w.old result text buffer.new w.new }
 {
-    match question {
-        Question::Clauses { k } => buffer_numbered(buffer, w, b"clauses ", k, false),
-        Question::Window { k, distinct } => buffer_numbered(buffer, w, b"window ", k, distinct),
-        Question::Bounded { k } => buffer_numbered(buffer, w, b"bounded ", k, false),
-        Question::Obligations => buffer.write_bytes(w, b"obligations "),
-        Question::Obligation { condition } => buffer_condition(buffer, w, condition),
+    match ask {
+        Ask::Step(k) => buffer_numbered(buffer, w, b"clauses ", k, Window::Plain),
+        Ask::UpTo(k) => buffer_numbered(buffer, w, b"bounded ", k, Window::Plain),
+        Ask::Window(k, form) => buffer_numbered(buffer, w, b"window ", k, form),
+    }
+}
+
+/// Buffers the words that say what clauses ask.
+fn buffer_topic<W: Sink>(
+    buffer: &mut OutputBuffer,
+    w: &mut W,
+    topic: Topic,
+) -> Result<(), StreamFault>
+    ensures { let text = topic_text topic in
+        BuffersOrStops W.held W.failed buffer.old w.old result text buffer.new w.new }
+{
+    match topic {
+        Topic::Asked(ask) => buffer_asked(buffer, w, ask),
+        Topic::Obligations => buffer.write_bytes(w, b"obligations "),
+        Topic::Obligation(condition) => buffer_condition(buffer, w, condition),
     }
 }
 
@@ -151,7 +147,7 @@ fn buffer_title<W: Sink>(
         BuffersOrStops W.held W.failed buffer.old w.old result text buffer.new w.new }
 {
     buffer.write_bytes(w, b"c aigcheck ")?;
-    buffer_question(buffer, w, title.question)?;
+    buffer_topic(buffer, w, title.topic)?;
     buffer.write_bytes(w, raw_word(title.optimize))?;
     buffer.write_bytes(w, b"sha256 ")?;
     buffer.write_bytes(w, &hex_of(&title.sum))?;

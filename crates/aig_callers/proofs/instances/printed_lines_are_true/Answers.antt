@@ -1,6 +1,10 @@
 use Rattle.aig_base.proofs.Words.{◌≡◌, ℕ, List, [], ◌∷◌, ◌++◌, refl, ◌∙◌, arith, codes, decimal}
 use Rattle.std.proofs.lemmas.Fmt.{decimal_digit}
+use Rattle.aig_format.specs.File.{File}
 use Rattle.aig_join.specs.declared.starts.Starts.TheVariants.{Apart}
+use Rattle.aig_runs.proofs.SafeSteps.{safe_is}
+use Rattle.aig_runs.specs.Queries.{IsSafeTo}
+use Rattle.aig_runs.specs.Safety.{IsSafeAt}
 use Rattle.aig_check_commands.specs.declared.command.Action.TheVariants as actions
 use Rattle.aig_callers.proofs.KnownLines.{digit, digit_line, justice_call, plain_call, witness_call}
 use Rattle.aig_callers.proofs.instances.printed_lines_are_true.Goals as goal
@@ -21,6 +25,10 @@ proofs = codes "BASE" ∷ codes "STEP" ∷ []
 abbrev each : List (List ℕ)
 each = codes "RESET" ∷ codes "TRANSITION" ∷ codes "PROPERTY" ∷ proofs
 
+-- a machine that is safe at every step
+safe_at_all : (f : File) → ((k : ℕ) → IsSafeAt f k) → (n : ℕ) → IsSafeTo f n
+safe_at_all f safe n = (safe_is f n).0 (λ k low. safe k)
+
 -- the line of five steps
 lasso_5 : (codes "no fair lasso of j" ++ (decimal 0 ++ 32 ∷ []) ++ codes "of ")
     ++ (decimal 5 ++ 32 ∷ []) ++ (codes "steps" ++ 10 ∷ [])
@@ -32,7 +40,8 @@ lasso_to_5 : (codes "no fair lasso of j" ++ (decimal 0 ++ 32 ∷ []) ++ codes "o
     ≡ codes "no fair lasso of j0 of at most 5 steps\n"
 lasso_to_5 = rw (decimal_digit 0 (omega arith), decimal_digit 5 (omega arith)) refl
 
-if_lasso_5 : (codes "no fair run of j" ++ (decimal 0 ++ 44 ∷ []) ++ codes " if no fair lasso of at most ")
+if_lasso_5 : (codes "no fair run of j" ++ (decimal 0 ++ 44 ∷ [])
+    ++ codes " if no fair lasso of at most ")
     ++ (decimal 5 ++ 32 ∷ []) ++ (codes "steps" ++ 10 ∷ [])
     ≡ codes "no fair run of j0, if no fair lasso of at most 5 steps\n"
 if_lasso_5 = rw (decimal_digit 0 (omega arith), decimal_digit 5 (omega arith)) refl
@@ -41,7 +50,7 @@ pub returns-clause-refuted : goal.returns-clause-refuted
 returns-clause-refuted c file other text printed =
     let told = printed _ _ _
     (plain_call actions.Refuted one (codes "0" ∷ []) proof 0 refl refl
-    (codes "0", refl, digit 0 (omega arith)) refl) (refl, refl) in (
+    (codes "0", refl, digit 0 (omega arith)) refl refl) (refl, refl) in (
       told.0,
       told.1,
       (
@@ -55,13 +64,13 @@ pub returns-clause-refuted_to : goal.returns-clause-refuted_to
 returns-clause-refuted_to c file other text printed =
     let told = printed _ _ _
     (plain_call actions.RefutedTo one (codes "to" ∷ codes "3" ∷ []) proof 3 refl refl
-    (codes "3", refl, digit 3 (omega arith)) refl) (refl, refl) in (
+    (codes "3", refl, digit 3 (omega arith)) refl refl) (refl, refl) in (
       told.0,
       told.1,
       (
         told.2.0
             ∙ digit_line (codes "no bad state up to step ") 3 (omega arith),
-        told.2.1,
+        (safe_is told.0 3).0 told.2.1,
       ),
     )
 
@@ -69,14 +78,15 @@ pub returns-clause-inductive : goal.returns-clause-inductive
 returns-clause-inductive c file other text printed =
     let told = printed _ _ _
     (plain_call actions.Inductive one (codes "2" ∷ []) proof 2 refl refl
-    (codes "2", refl, digit 2 (omega arith)) refl) (refl, refl) in (
+    (codes "2", refl, digit 2 (omega arith)) refl refl) (refl, refl) in (
       told.0,
       told.1,
       (
         told.2.0
             ∙ digit_line (codes "no bad state at any step, if none up to step ") 2 (omega arith),
         told.2.1.0,
-        told.2.1.1,
+        λ safe n. (safe_is told.0 n).0
+            (λ k low. told.2.1.1 tt (λ t h. (safe_is told.0 2).1 safe t h) k),
       ),
     )
 
@@ -84,22 +94,23 @@ pub returns-clause-safe_to : goal.returns-clause-safe_to
 returns-clause-safe_to c file other text printed =
     let told = printed _ _ _
     (plain_call actions.Safe one (codes "to" ∷ codes "1" ∷ []) proofs 1 refl refl
-    (codes "1", refl, digit 1 (omega arith)) refl) (refl, refl) in
-    told
+    (codes "1", refl, digit 1 (omega arith)) refl refl) (refl, refl) in
+    (told.0, told.1, (told.2.0, safe_at_all told.0 told.2.1))
 
 pub returns-clause-safe_each : goal.returns-clause-safe_each
 returns-clause-safe_each c file other text printed =
     let told = printed _ _ _
-    (plain_call actions.SafeBySteps one (codes "each" ∷ codes "0" ∷ []) (codes "P0" ∷ codes "STEP" ∷ []) 0 refl refl
-    (codes "0", refl, digit 0 (omega arith)) refl) (refl, refl) in
-    told
+    (plain_call actions.SafeBySteps one (codes "each" ∷ codes "0" ∷ [])
+    (codes "P0" ∷ codes "STEP" ∷ []) 0 refl refl
+    (codes "0", refl, digit 0 (omega arith)) refl refl) (refl, refl) in
+    (told.0, told.1, (told.2.0, safe_at_all told.0 told.2.1))
 
 pub returns-clause-certified : goal.returns-clause-certified
 returns-clause-certified c file other text printed =
     let told = printed _ _ _
     (plain_call actions.Certified both [] proofs 0 refl refl
-    (refl, refl) refl) (refl, refl) in
-    told
+    (refl, refl) refl refl) (refl, refl) in
+    (told.0, told.1, (told.2.2.0, safe_at_all told.0 told.2.2.1))
 
 pub returns-clause-simulated : goal.returns-clause-simulated
 returns-clause-simulated c file other text printed =
@@ -109,7 +120,7 @@ pub returns-clause-equal : goal.returns-clause-equal
 returns-clause-equal c file other text printed =
     let told = printed _ _ _
     (plain_call (actions.Equal Apart) both (codes "5" ∷ []) proof 5 refl refl
-    (codes "5", refl, digit 5 (omega arith)) refl) (refl, refl) in (
+    (codes "5", refl, digit 5 (omega arith)) refl refl) (refl, refl) in (
       told.0,
       told.1,
       (
@@ -118,7 +129,7 @@ returns-clause-equal c file other text printed =
         (
           told.2.2.0
               ∙ digit_line (codes "equal at step ") 5 (omega arith),
-          told.2.2.1,
+          told.2.2.1.1,
         ),
       ),
     )
@@ -127,21 +138,21 @@ pub returns-clause-equal_to : goal.returns-clause-equal_to
 returns-clause-equal_to c file other text printed =
     let told = printed _ _ _
     (plain_call (actions.AlwaysEqual Apart) both (codes "to" ∷ codes "1" ∷ []) proofs 1 refl refl
-    (codes "1", refl, digit 1 (omega arith)) refl) (refl, refl) in
-    told
+    (codes "1", refl, digit 1 (omega arith)) refl refl) (refl, refl) in
+    (told.0, told.1, (told.2.0, told.2.1, (told.2.2.0, λ n. (told.2.2.1 n).1)))
 
 pub returns-clause-equal_by : goal.returns-clause-equal_by
 returns-clause-equal_by c file other text printed =
     let told = printed _ _ _
     (plain_call (actions.EqualBy Apart) both (codes "by" ∷ []) (codes "CERT" ∷ proofs) 0 refl refl
-    (refl, refl) refl) (refl, refl) in
-    told
+    (refl, refl) refl refl) (refl, refl) in
+    (told.0, told.1, (told.2.0, told.2.1, (told.2.2.1.0, λ n. (told.2.2.1.1 n).1)))
 
 pub returns-clause-run : goal.returns-clause-run
 returns-clause-run c file other text printed =
     let told = printed _ _ _
     (plain_call actions.Run one [] (codes "WITNESS" ∷ []) 0 refl refl
-    (refl, refl) refl) (refl, refl) in
+    (refl, refl) refl refl) (refl, refl) in
     told
 
 pub returns-clause-fair_refuted : goal.returns-clause-fair_refuted
@@ -163,7 +174,7 @@ returns-clause-fair_inductive c file other text printed =
     let told = printed _ _ _
     (justice_call actions.Inductive one (codes "4" ∷ []) proof 4 refl refl
     (codes "4", refl, digit 4 (omega arith)) refl refl) (refl, refl) refl in
-    (told.0, told.1, (told.2.0 ∙ if_lasso_5, told.2.1))
+    (told.0, told.1, (told.2.0 ∙ if_lasso_5, told.2.1.1 tt))
 
 pub returns-clause-fair_safe : goal.returns-clause-fair_safe
 returns-clause-fair_safe c file other text printed =

@@ -10,7 +10,7 @@ pub returns : goal.returns
 returns c =
     let answer = text_of_printed c.in_ok-print_obligations.ensures.2 in
     let read = both_read _ _ _ _ 16777216 _ _ _ _ _ _ _ _ c.args.file.now c.args.certificate.now
-    answer.0 answer.1.reads c.source_of-file.ensures c.source_of-certificate.ensures in
+    answer.0 answer.1 c.source_of-file.ensures c.source_of-certificate.ensures in
     let all = all_held _ _ c.into_inner.result.items answer.0 (c.new-out.ensures.held
     ∙ ap (λ l. Some l) c.new.ensures.items) (sym c.into_inner.ensures) answer.2 in (
       read.0,

@@ -1,6 +1,6 @@
 use Rattle.aig_check_commands.proofs.Words.{decimal, rules, codes, Buffers-trans, failed_among, failed_first, then_call}
 use Rattle.std.proofs.Common.{[], ◌∷◌, ◌++◌, ◌+◌}
-use Rattle.aig_check_commands.specs.Goals.{last_step}
+use Rattle.aig_answers.specs.Goals.{last_step}
 use Rattle.aig_check_commands.proofs.living.buffer_lassos.Goals as goal
 
 pub returns-in_err-buffer_lasso_text : goal.returns-in_err-buffer_lasso_text

@@ -1,9 +1,7 @@
 use Rattle.aig_check_commands.proofs.Words.{refl, ap, sym, ◌∙◌, err_from_is_err_and, source_of, pair_title}
-use Rattle.aig_answers.specs.Certificates.{Obliges}
-use Rattle.aig_refutation.specs.declared.error.RefutationError.TheVariants as refutation
 use Rattle.aig_check_commands.specs.declared.error.CheckError.TheVariants as errors
 use Rattle.aig_check_commands.proofs.Outcomes.{error_printed, text_printed}
-use Rattle.aig_check_commands.proofs.Pairing.{no_proof_of_clauses, obligations_text, obliged_text, pair_answered, pair_refused, reads_under, summed_under}
+use Rattle.aig_check_commands.proofs.Pairing.{obligations_text, obliged_text, pair_answered, pair_refused, reads_under, summed_under}
 use Rattle.aig_check_commands.proofs.pairs.print_obligations_of.Goals as goal
 
 pub returns-in_err-asked : goal.returns-in_err-asked
@@ -13,13 +11,10 @@ returns-in_err-asked g c =
     let e = c.in_err-asked.field-0.0 in
     let reads = reads_under g.R.Source.left g.R.Source.failed g.S.Source.left g.S.Source.failed
     source_of source_of told.reads in
-    let none = no_proof_of_clauses e refutation.Stream reads.own in
     rw (sym c.new-first.ensures, sym c.new-second.ensures, p.1, p.2) (
       c.obligations_of.new.file.source,
       c.obligations_of.new.certificate.source,
-      error_printed (errors.Certificate e) (pair_refused (Obliges c.args.limit c.args.optimize) e
-          reads (λ own. own) (λ f h refuses. refuses) (λ leaves. refl) (λ leaves. refl)
-          (λ is. absurd (none.0 is)) (λ is. absurd (none.1 is))) refl,
+      error_printed (errors.Certificate e) (pair_refused e reads) refl,
     )
 
 pub returns : goal.returns
@@ -40,8 +35,7 @@ returns g c =
     rw (sym c.new-first.ensures, sym c.new-second.ensures, c.after_writing.ensures) (
       c.obligations_of.new.file.source,
       c.obligations_of.new.certificate.source,
-      text_printed c.write_obligations.result text (pair_answered (Obliges c.args.limit optimize) o
-          text read.0
+      text_printed c.write_obligations.result text (pair_answered o text read.0
           (λ f h asked. obligations_text optimize bytes others sum beside read.1 read.2 f h o
           told.base told.step asked told.base_has told.step_has told.base_formula
           told.step_formula)) told.writes,

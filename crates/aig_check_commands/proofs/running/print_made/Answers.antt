@@ -1,5 +1,5 @@
 use Rattle.aig_check_commands.proofs.Words.{err_from_is_err_and, refl, subst, ◌∙◌, File, PrintsMade}
-use Rattle.aig_check_commands.proofs.Made.{prints_on_text, ran, ran_no_making, ran_on_text, unmade}
+use Rattle.aig_check_commands.proofs.Made.{ran, ran_no_making, ran_on_text, unmade}
 use Rattle.aig_check_commands.proofs.running.print_made.Goals as goal
 
 pub returns-in_err-text : goal.returns-in_err-text
@@ -26,7 +26,7 @@ returns g c =
       ran g.R.Source.left g.R.Source.failed c.args.limit c.args.justice (λ (f : File). means) _
           c.args.file.now _ c.in_ok-text.text c.print.result
           (ran_no_making _ _ _ _ _ _ _ _ _ _ _ _ d files raw.1
-          (prints_on_text d c.requires.prints) raw.2)
+          c.requires.text raw.2)
           c.in_ok-text.ensures
           (λ f m of is. subst (λ t. means t c.print.result) (c.new-source.ensures ∙ c.as_slice.ensures.value ∙ is) on),
     )

@@ -1,7 +1,6 @@
-use Rattle.aig_simulation.proofs.Words.{◌≡◌, ◌∙◌, ◌<◌, All, All-filter, List, None, Option, ap, arith, get_or, length, length-replicate, replicate, subst, sym, take_at, AigEdge, AigLatch, Leaf, kind_at-within, IsLatch, AreResets, HoldsResets, own_among}
+use Rattle.aig_simulation.proofs.Words.{AigEdge, AigLatch, All, AreResets, HoldsResets, IsLatch, Leaf, List, None, Option, ap, arith, get_or, kind_at-within, length, length-replicate, replicate, subst, sym, take_at, ◌∙◌, ◌≡◌}
 use Rattle.aig_simulation.proofs.Constant.{AreApart, own_apart}
-use Rattle.aig_simulation.proofs.Deciding.{is_own}
-use Rattle.aig_simulation.proofs.Giving.{none_alone}
+use Rattle.aig_simulation.proofs.First.{none_alone}
 use Rattle.aig_simulation.proofs.Resets.{are_resets}
 use Rattle.aig_simulation.proofs.circles.own_resets.Goals as goal
 
@@ -11,22 +10,25 @@ write_resets-requires-clause-leaves c =
     let shared = c.args.shared.now in
     let count = length c.nodes.result.now in
     let none : List (Option AigEdge) = replicate count None in
-    let listed = c.deref.ensures.value ∙ c.in_ok-own.ensures in
     let table : c.deref_mut.result.now ≡ none =
     c.deref_mut.ensures.value ∙ c.in_ok-resets.ensures.items_if_clones_equal (none_alone _ (λ n h.
     h)) in
     let long : length c.deref_mut.result.now ≡ length witness.nodes =
     ap length table ∙ length-replicate count None ∙ ap length c.nodes.ensures.value in
-    subst (All (λ (l : AigLatch). l.input < length c.deref_mut.result.now)) (sym listed)
-    (λ k d h.
-    let latch = All-filter (is_own shared) (IsLatch witness.nodes) witness.latchs
-    c.nodes.ensures.circuit.latchs k d h in
-    let own = get_or (own_among shared witness.latchs) k d in
-    omega (arith, long, kind_at-within witness.nodes own.input Leaf latch.leaf))
+    λ k d h.
+    let own = get_or c.deref.result.now k d in
+    omega (
+      arith,
+      long,
+      kind_at-within witness.nodes own.input Leaf
+          (subst (All (IsLatch witness.nodes)) (sym c.deref.ensures.value)
+          c.in_ok-own.ensures.latchs k d
+          h).leaf,
+    )
 
 pub write_resets-requires-clause-apart : goal.write_resets-requires-clause-apart
 write_resets-requires-clause-apart c =
-    subst AreApart (sym (c.deref.ensures.value ∙ c.in_ok-own.ensures))
+    subst AreApart (sym (c.deref.ensures.value ∙ c.in_ok-own.ensures.exact))
     (own_apart c.args.shared.now c.args.witness.now c.nodes.ensures.circuit)
 
 pub returns : goal.returns
@@ -36,7 +38,7 @@ returns c =
     let new = c.write_resets.new.resets in
     let count = length c.nodes.result.now in
     let none : List (Option AigEdge) = replicate count None in
-    let listed = c.deref.ensures.value ∙ c.in_ok-own.ensures in
+    let listed = c.deref.ensures.value ∙ c.in_ok-own.ensures.exact in
     let table : c.deref_mut.result.now ≡ none =
     c.deref_mut.ensures.value ∙ c.in_ok-resets.ensures.items_if_clones_equal (none_alone _ (λ n h.
     h)) in

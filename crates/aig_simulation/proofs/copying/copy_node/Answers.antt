@@ -1,9 +1,9 @@
-use Rattle.aig_simulation.proofs.Words.{[], ◌++◌, ◌∙◌, ◌∷◌, ◌≡◌, IfOk-weaker, Some, subst, sym, AigEdge, AigNodeType, FoldsOrAdds, image_in, with_copy, frame_in}
+use Rattle.aig_simulation.proofs.Words.{AigEdge, AigNodeType, FoldsOrAdds, IfOk-weaker, Some, [], frame_in, image_in, subst, sym, with_copy, ◌++◌, ◌∙◌, ◌∷◌, ◌≡◌}
 use Rattle.aig_simulation.proofs.Exactly.{image_made}
 use Rattle.aig_simulation.proofs.copying.copy_node.Goals as goal
 
-pub returns-in-And-clause-exact : goal.returns-in-And-clause-exact
-returns-in-And-clause-exact c =
+pub returns-in-And : goal.returns-in-And
+returns-in-And c =
     let old = c.args.nodes.now.items in
     let new = c.new_and_node.new.nodes.items in
     let images = c.args.images.now in

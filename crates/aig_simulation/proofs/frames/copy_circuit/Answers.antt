@@ -1,24 +1,18 @@
-use Rattle.aig_simulation.proofs.Words.{◌≡◌, ◌∙◌, ℕ, All, IfOk-weaker, IfSome, List, None, Option, ap, arith, length, replicate, subst, sym, take_at, AigEdge, AigLatch, AigNode, IsInRange, image_at, image_in, Copies, given_at, GivesAll}
-use Rattle.aig_simulation.proofs.Giving.{given_all, is_frame, none_alone, nothing_given}
+use Rattle.aig_simulation.proofs.Words.{AigNode, IfOk-weaker, List, None, ap, ap₂, arith, frame_to, fun_ext, given_at, image_at, length, model_leaf, next_leaves, option_map, option_or, or-none, replicate, take_at, ℕ, ◌∙◌, ◌≡◌}
+use Rattle.aig_simulation.proofs.First.{none_alone, nothing_given}
+use Rattle.aig_simulation.proofs.Framed.{given, given_all}
 use Rattle.aig_simulation.proofs.frames.copy_circuit.Goals as goal
 use Rattle.aig_simulation.proofs.frames.copy_circuit.Goals.{After-deref}
 
--- what the table holds at first, and where it is read
-record Facts (c : After-deref) : Type 0 where
-  none : (n : ℕ) → given_at c.deref_mut.result.now n ≡ None
-  moved : GivesAll (λ (l : AigLatch). l.input) (λ l. image_in c.args.before.now l.next)
-      c.args.latchs.now c.deref_mut.result.now c.give_next.new.given
-  shares : GivesAll (λ (p : ℕ × ℕ). p.1) (λ p. image_at c.args.others.now p.0) c.args.shared.now
-      c.give_next.new.given c.give_shared.new.given
-  read : c.deref.result.now ≡ c.give_shared.new.given
-
-facts : (c : After-deref) → Facts c
-facts c =
+-- what the table holds where it is read
+held : (c : After-deref) → (n : ℕ)
+    → given_at c.deref.result.now n
+    ≡ given c.args.latchs.now c.args.before.now c.args.shared.now c.args.others.now n
+held c n =
     let count = length c.nodes.result.now in
     let one = c.give_next.new.given in
     let two = c.give_shared.new.given in
-    let table : List (Option AigEdge) = replicate count None in
-    let none : c.deref_mut.result.now ≡ table =
+    let none : c.deref_mut.result.now ≡ replicate count None =
     c.deref_mut.ensures.value ∙ c.in_ok-given.ensures.items_if_clones_equal (none_alone _ (λ n h.
     h)) in
     let long : length one ≡ c.in_ok-given.given.len = omega (
@@ -35,36 +29,26 @@ facts c =
       ap length next,
       long,
     ) in
-    record {
-      none = λ n. ap (λ (l : List (Option AigEdge)). given_at l n) none ∙ nothing_given count n;
-      moved = c.give_next.ensures;
-      shares = subst
-          (λ l. GivesAll (λ (p : ℕ × ℕ). p.1) (λ p. image_at c.args.others.now p.0)
-          c.args.shared.now l two) next c.give_shared.ensures;
-      read = c.deref.ensures.value ∙ take_at two _ c.in_ok-given.given.len longer;
-    }
+    let leaves = next_leaves c.args.latchs.now c.args.before.now n in
+    ap (λ l. given_at l n) (c.deref.ensures.value ∙ take_at two _ c.in_ok-given.given.len longer)
+    ∙ c.give_shared.ensures n
+    ∙ ap (option_or (option_map (image_at c.args.others.now) (model_leaf c.args.shared.now n)))
+    (ap (λ l. given_at l n) next
+    ∙ c.give_next.ensures n
+    ∙ ap (option_or leaves) (ap (λ l. given_at l n) none ∙ nothing_given count n)
+    ∙ or-none leaves)
 
 pub copy_nodes-requires-clause-there : goal.copy_nodes-requires-clause-there
 copy_nodes-requires-clause-there c =
-    let known = facts c in
-    subst (All (λ g. IfSome g (IsInRange c.args.nodes.now.items))) (sym known.read)
-    (given_all c.args.nodes.now.items c.args.latchs.now c.args.before.now c.args.shared.now
-    c.args.others.now c.deref_mut.result.now c.give_next.new.given c.give_shared.new.given
-    known.none known.moved known.shares c.requires.next c.requires.others)
+    given_all c.args.latchs.now c.args.before.now c.args.shared.now c.args.others.now
+    c.args.nodes.now.items c.requires.next c.requires.others c.deref.result.now (held c)
 
-pub returns-clause-frame : goal.returns-clause-frame
-returns-clause-frame c =
-    let known = facts ((goal.at.returns-clause-frame c).After-deref) in
-    let circuit = c.args.circuit.now in
+pub returns-clause-exact : goal.returns-clause-exact
+returns-clause-exact c =
     let old = c.args.nodes.now.items in
-    let new = c.copy_nodes.new.nodes.items in
-    let given = c.give_shared.new.given in
     IfOk-weaker c.copy_nodes.result _ _
-    (λ images copies.
-    is_frame circuit c.args.latchs.now c.args.before.now c.args.shared.now c.args.others.now old new
-    c.deref_mut.result.now c.give_next.new.given given images.items known.none known.moved
-    known.shares c.requires.latchs c.requires.shared c.nodes.ensures.circuit.nodes
-    (subst (λ (source : List AigNode). Copies source given old new images.items (length source))
+    (λ images exact.
+    exact
+    ∙ ap₂ (λ (source : List AigNode) table. frame_to source table old (length source))
     c.nodes-2.ensures.value
-    (subst (λ l. Copies c.nodes-2.result.now l old new images.items (length c.nodes-2.result.now))
-    known.read copies))) c.copy_nodes.ensures
+    (fun_ext (held ((goal.at.returns-clause-exact c).After-deref)))) c.copy_nodes.ensures.exact

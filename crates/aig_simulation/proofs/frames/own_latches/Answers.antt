@@ -1,6 +1,6 @@
-use Rattle.aig_simulation.proofs.Words.{◌≡◌, ◌∙◌, ◌+◌, ◌<◌, ◌++◌, ◌∷◌, ◌||◌, ℕ, Bool, true, false, not, cond, List, [], Vec, Global, ap, arith, get_or, get_or_default, get_or-replicate, length, length-replicate, map, replicate, subst, sym, take_at, append-nil, filter_more, AigLatch, Leaf, kind_at-within, is_in, no_latch, own_among, Sharing}
+use Rattle.aig_simulation.proofs.Words.{AigLatch, All, All-filter, Bool, Global, IsLatch, Leaf, List, Sharing, Vec, [], ap, append-nil, arith, cond, false, filter_more, get_or, get_or-replicate, get_or_default, is_in, kind_at-within, length, length-replicate, map, no_latch, not, own_among, replicate, subst, sym, take_all, take_at, true, ℕ, ◌++◌, ◌+◌, ◌<◌, ◌||◌, ◌∙◌, ◌∷◌, ◌≡◌}
 use Rattle.aig_base.proofs.Words.{take}
-use Rattle.aig_simulation.proofs.Deciding.{is_own}
+use Rattle.aig_simulation.proofs.Owned.{is_own}
 use Rattle.aig_simulation.proofs.frames.own_latches.Goals as goal
 use Rattle.aig_simulation.proofs.frames.own_latches.Goals.{Joined-not-index, then-not-index+in_ok-push, else-not-index}
 
@@ -79,3 +79,15 @@ loop-latch-preserved c =
           (is ∙ ap not w.if-not-index.false)
           (ap (λ (v : Vec AigLatch Global). v.items) w.own-is ∙ sym (append-nil own))
     ]
+
+pub returns-clause-latchs : goal.returns-clause-latchs
+returns-clause-latchs c =
+    let witness = c.args.witness.now in
+    let same = c.latchs-latch-items.ensures.value in
+    subst (All (IsLatch witness.nodes))
+    (sym (c.loop-latch.invariant
+    ∙ ap (own_among c.args.shared.now)
+    (take_all c.loop-latch.latch-index c.latchs-latch-items.result.now c.loop-latch-test.false
+    ∙ same)))
+    (All-filter (is_own c.args.shared.now) (IsLatch witness.nodes) witness.latchs
+    c.nodes.ensures.circuit.latchs)

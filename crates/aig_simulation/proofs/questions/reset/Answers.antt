@@ -1,76 +1,93 @@
-use Rattle.aig_simulation.proofs.Words.{◌≡◌, ◌∙◌, List, [], All, All-filter, IfOk-weaker, subst, sym, AigEdge, AigLatch, AigNode, Circuit, IsInitial, IsLatch, MeetsConstraints, IsFalseWhere, made_in, make_reset, model_leaf, IsCopy, IsFrame, own_among, read, Starts}
-use Rattle.aig_simulation.proofs.Deciding.{carry2, is_own, reset_decided}
+use Rattle.aig_simulation.proofs.Words.{AigLatch, All, Frame, HasImage, IfOk-weaker, IsClaimIn, List, ap, ap₂, beside, constraint_claims, copy_after, frame_in, made_in, model_leaf, no_leaf, own_among, refl, shared_leaves, start_claims, subst, sym, ◌++◌, ◌∙◌, ◌≡◌}
+use Rattle.aig_simulation.proofs.Deciding.{reset_conclusions, reset_premises}
 use Rattle.aig_simulation.proofs.Exactly.{own_is, reset_asked}
-use Rattle.aig_simulation.proofs.Giving.{copy_stays}
+use Rattle.aig_simulation.proofs.Framed.{first_frame, has_shared}
 use Rattle.aig_simulation.proofs.questions.reset.Goals as goal
+use Rattle.aig_simulation.proofs.questions.reset.Goals.{After-deref-9}
 
-abbrev Refutes : Circuit → Circuit → List AigNode → List AigNode → AigEdge → List AigLatch
-    → List AigEdge → List AigEdge → Type 0
-Refutes model witness base new e own x y =
-    IsFalseWhere base new e
-    (λ z. (IsInitial model (read base x z) × MeetsConstraints model (read base x z))
-    × All (Starts witness (read base y z)) own
-    → IsInitial witness (read base y z) × MeetsConstraints witness (read base y z))
+pub copy_circuit-requires-2-clause-others : goal.copy_circuit-requires-2-clause-others
+copy_circuit-requires-2-clause-others c =
+    let x = frame_in c.copy_circuit.new.nodes.items c.in_ok-x.x.items in
+    subst (λ l. All (λ p. HasImage x.nodes l p.0) c.args.shared.now) (sym c.deref.ensures.value)
+    (has_shared c.args.shared.now c.args.model.now c.args.witness.now c.requires.shared x
+    (first_frame c.args.model.now c.copy_circuit.ensures.circuit c.args.nodes.now.items
+    c.requires.sound x c.in_ok-x.ensures.exact).copy)
 
-pub ask_reset-requires-clause-model : goal.ask_reset-requires-clause-model
-ask_reset-requires-clause-model c =
-    let nodes = c.args.model.now.nodes in
-    let frame = c.in_ok-x.ensures.frame in
-    subst (IsCopy nodes c.copy_circuit-2.new.nodes.items) (sym c.deref-3.ensures.value)
-    (copy_stays nodes c.copy_circuit.new.nodes.items c.copy_circuit-2.new.nodes.items
-    c.in_ok-x.x.items frame.copy.sound c.in_ok-y.ensures.frame.grows frame.copy)
+module _ (c : After-deref-9) where
+  abbrev x : Frame
+  x = frame_in c.copy_circuit.new.nodes.items c.in_ok-x.x.items
 
-pub ask_reset-requires-clause-own : goal.ask_reset-requires-clause-own
-ask_reset-requires-clause-own c =
-    let witness = c.args.witness.now in
-    subst (All (IsLatch witness.nodes)) (sym (c.deref-2.ensures.value ∙ c.in_ok-own.ensures))
-    (All-filter (is_own c.args.shared.now) (IsLatch witness.nodes) witness.latchs
-    c.copy_circuit-2.ensures.circuit.latchs)
+  abbrev y : Frame
+  y = frame_in c.copy_circuit-2.new.nodes.items c.in_ok-y.y.items
 
-pub returns-clause-asks : goal.returns-clause-asks
-returns-clause-asks c =
-    let shared = c.args.shared.now in
-    let model = c.args.model.now in
-    let witness = c.args.witness.now in
-    let old = c.args.nodes.now.items in
-    let mid = c.copy_circuit.new.nodes.items in
-    let base = c.copy_circuit-2.new.nodes.items in
-    let new = c.ask_reset.new.nodes.items in
-    let x = c.in_ok-x.x.items in
-    let y = c.in_ok-y.y.items in
-    let frame_y = subst (λ l. IsFrame witness [] [] shared l mid base y) c.deref.ensures.value
-    c.in_ok-y.ensures.frame in
-    let own = c.deref-2.ensures.value ∙ c.in_ok-own.ensures in
-    IfOk-weaker c.ask_reset.result _ _
-    (λ e is.
-    reset_decided shared model witness c.copy_circuit.ensures.circuit
-    c.copy_circuit-2.ensures.circuit c.requires.shared old mid base x y c.in_ok-x.ensures.frame
-    frame_y new e
-    (carry2 (Refutes model witness base new e (own_among shared witness.latchs))
-    c.deref-3.result.now x c.deref-4.result.now y c.deref-3.ensures.value c.deref-4.ensures.value
-    (subst (λ l. Refutes model witness base new e l c.deref-3.result.now c.deref-4.result.now) own
-    is))) c.ask_reset.ensures.refutes
+  is_y : y ≡ beside (model_leaf c.args.shared.now) c.args.witness.now x
+  is_y =
+      c.in_ok-y.ensures.exact
+      ∙ ap (λ l. copy_after x.nodes c.args.witness.now
+      (shared_leaves (model_leaf c.args.shared.now) l no_leaf)) c.deref.ensures.value
+
+  abbrev own : List AigLatch
+  own = own_among c.args.shared.now c.args.witness.now.latchs
+
+  premises : c.deref-8.result.now
+      ≡ start_claims c.args.model.now.latchs x.images ++ constraint_claims c.args.model.now x.images
+      ++ start_claims own y.images
+  premises =
+      c.deref-8.ensures.value
+      ∙ c.in_ok-push_starts-2.ensures
+      ∙ ap₂ ◌++◌ (c.in_ok-push_constraints.ensures
+      ∙ ap₂ ◌++◌ (c.in_ok-push_starts.ensures
+      ∙ ap₂ ◌++◌ c.new-premises.ensures.items
+      (ap₂ start_claims c.latchs.ensures.value c.deref-2.ensures.value))
+      (ap (constraint_claims c.args.model.now) c.deref-3.ensures.value))
+      (ap₂ start_claims (c.deref-4.ensures.value ∙ c.in_ok-own.ensures.exact)
+      c.deref-5.ensures.value)
+
+  conclusions : c.deref-9.result.now
+      ≡ start_claims c.args.witness.now.latchs y.images
+      ++ constraint_claims c.args.witness.now y.images
+  conclusions =
+      c.deref-9.ensures.value
+      ∙ c.in_ok-push_constraints-2.ensures
+      ∙ ap₂ ◌++◌ (c.in_ok-push_starts-3.ensures
+      ∙ ap₂ ◌++◌ c.new-conclusions.ensures.items
+      (ap₂ start_claims c.latchs-2.ensures.value c.deref-6.ensures.value))
+      (ap (constraint_claims c.args.witness.now) c.deref-7.ensures.value)
+
+pub refuting_edge-requires-clause-premises : goal.refuting_edge-requires-clause-premises
+refuting_edge-requires-clause-premises c =
+    let are : c.deref-8.result.now
+    ≡ start_claims c.args.model.now.latchs (x c).images
+    ++ constraint_claims c.args.model.now (x c).images ++ start_claims (own c) (y c).images =
+    c.deref-8.ensures.value ∙ c.in_ok-push_starts-2.ensures
+    ∙ ap₂ ◌++◌ (c.in_ok-push_constraints.ensures
+    ∙ ap₂ ◌++◌ (c.in_ok-push_starts.ensures
+    ∙ ap₂ ◌++◌ c.new-premises.ensures.items
+    (ap₂ start_claims c.latchs.ensures.value c.deref-2.ensures.value))
+    (ap (constraint_claims c.args.model.now) c.deref-3.ensures.value))
+    (ap₂ start_claims (c.deref-4.ensures.value ∙ c.in_ok-own.ensures.exact)
+    c.deref-5.ensures.value) in
+    subst (All (IsClaimIn c.copy_circuit-2.new.nodes.items)) (sym are)
+    (reset_premises c.args.shared.now c.args.model.now c.args.witness.now
+    c.copy_circuit.ensures.circuit c.copy_circuit-2.ensures.circuit c.requires.shared
+    c.args.nodes.now.items c.requires.sound (x c) c.in_ok-x.ensures.exact (y c) (is_y c) (own c)
+    refl).there
+
+pub refuting_edge-requires-clause-conclusions : goal.refuting_edge-requires-clause-conclusions
+refuting_edge-requires-clause-conclusions c =
+    subst (All (IsClaimIn c.copy_circuit-2.new.nodes.items)) (sym (conclusions c))
+    (reset_conclusions c.args.shared.now c.args.model.now c.args.witness.now
+    c.copy_circuit.ensures.circuit c.copy_circuit-2.ensures.circuit c.requires.shared
+    c.args.nodes.now.items c.requires.sound (x c) c.in_ok-x.ensures.exact (y c) (is_y c) (own c)
+    refl).there
 
 pub returns-clause-exact : goal.returns-clause-exact
 returns-clause-exact c =
-    let shared = c.args.shared.now in
-    let model = c.args.model.now in
-    let witness = c.args.witness.now in
-    let old = c.args.nodes.now.items in
-    let mid = c.copy_circuit.new.nodes.items in
-    let base = c.copy_circuit-2.new.nodes.items in
-    let new = c.ask_reset.new.nodes.items in
-    let x = c.in_ok-x.x.items in
-    let y = c.in_ok-y.y.items in
-    let frame_y = subst (λ l. IsFrame witness [] [] shared l mid base y) c.deref.ensures.value
-    c.in_ok-y.ensures.frame in
-    let own = c.deref-2.ensures.value ∙ c.in_ok-own.ensures in
-    IfOk-weaker c.ask_reset.result _ _
-    (λ e is.
-    reset_asked model witness (model_leaf shared) old new e mid base x y
-    c.in_ok-x.ensures.frame.exact frame_y.exact c.deref-2.result.now
-    (own ∙ own_is shared witness.latchs)
-    (carry2 (λ first second. made_in new e
-    ≡ make_reset base model witness c.deref-2.result.now first second) c.deref-3.result.now x
-    c.deref-4.result.now y c.deref-3.ensures.value c.deref-4.ensures.value is))
-    c.ask_reset.ensures.exact
+    let d = (goal.at.returns-clause-exact c).After-deref-9 in
+    IfOk-weaker c.refuting_edge.result _ _
+    (λ e made.
+    reset_asked (model_leaf c.args.shared.now) c.args.model.now c.args.witness.now
+    c.args.nodes.now.items (made_in c.refuting_edge.new.nodes.items e) c.deref-8.result.now
+    c.deref-9.result.now (x d) (y d) c.in_ok-x.ensures.exact (is_y d) (own d)
+    (own_is c.args.shared.now c.args.witness.now.latchs) made (premises d) (conclusions d))
+    c.refuting_edge.ensures

@@ -1,138 +1,157 @@
-use Rattle.aig_simulation.proofs.Words.{◌≡◌, All, List, [], IfOk-weaker, get_or, subst, sym, AigEdge, AigNode, Leaf, Grows-then, kind_at-within, Circuit, MeetsConstraints, IsFalseWhere, HasImage, made_in, make_transition, model_leaf, IsCopy, IsFrame, read, IsMove}
-use Rattle.aig_simulation.proofs.Deciding.{carry2, transition_decided}
+use Rattle.aig_simulation.proofs.Words.{All, Frame, HasImage, IfOk-weaker, IsClaimIn, ap, ap₂, beside, constraint_claims, copy_after, frame_in, made_in, model_leaf, move_claims, moved, moved_beside, next_leaves, no_leaf, shared_leaves, subst, sym, ◌++◌, ◌∙◌, ◌≡◌}
+use Rattle.aig_simulation.proofs.Deciding.{carry2, copy_x, copy_y, frame_next, transition_conclusions, transition_premises}
 use Rattle.aig_simulation.proofs.Exactly.{transition_asked}
-use Rattle.aig_simulation.proofs.Giving.{copy_stays}
-use Rattle.aig_simulation.proofs.Reading.{has_image}
+use Rattle.aig_simulation.proofs.Framed.{first_frame, has_image, has_shared}
 use Rattle.aig_simulation.proofs.questions.transition.Goals as goal
+use Rattle.aig_simulation.proofs.questions.transition.Goals.{After-deref-4, After-deref-12}
 
-abbrev Refutes : Circuit → Circuit → List AigNode → List AigNode → AigEdge → List AigEdge
-    → List AigEdge → List AigEdge → List AigEdge → Type 0
-Refutes model witness last new e x next y z =
-    IsFalseWhere last new e
-    (λ w. MeetsConstraints model (read last x w) × MeetsConstraints model (read last next w)
-    × MeetsConstraints witness (read last y w)
-    → IsMove witness (read last y w) (read last z w) × MeetsConstraints witness (read last z w))
+pub copy_circuit-requires-2-clause-others : goal.copy_circuit-requires-2-clause-others
+copy_circuit-requires-2-clause-others c =
+    let x = frame_in c.copy_circuit.new.nodes.items c.in_ok-x.x.items in
+    subst (λ l. All (λ p. HasImage x.nodes l p.0) c.args.shared.now) (sym c.deref.ensures.value)
+    (has_shared c.args.shared.now c.args.model.now c.args.witness.now c.requires.shared x
+    (first_frame c.args.model.now c.copy_circuit.ensures.circuit c.args.nodes.now.items
+    c.requires.sound x c.in_ok-x.ensures.exact).copy)
+
+pub copy_circuit-requires-3-clause-next : goal.copy_circuit-requires-3-clause-next
+copy_circuit-requires-3-clause-next c =
+    let model = c.args.model.now in
+    let x = frame_in c.copy_circuit.new.nodes.items c.in_ok-x.x.items in
+    let y = frame_in c.copy_circuit-2.new.nodes.items c.in_ok-y.y.items in
+    carry2 (λ latchs l. All (λ m. HasImage y.nodes l m.next.node_id) latchs) model.latchs
+    c.latchs.result.now x.images c.deref-2.result.now (sym c.latchs.ensures.value)
+    (sym c.deref-2.ensures.value)
+    (λ k d h. has_image model.nodes y.nodes x.images
+    (copy_x c.args.shared.now model c.args.witness.now c.copy_circuit.ensures.circuit
+    c.copy_circuit-2.ensures.circuit c.requires.shared c.args.nodes.now.items c.requires.sound x
+    c.in_ok-x.ensures.exact y
+    (c.in_ok-y.ensures.exact
+    ∙ ap (λ l. copy_after x.nodes c.args.witness.now
+    (shared_leaves (model_leaf c.args.shared.now) l no_leaf)) c.deref.ensures.value)) _
+    (c.copy_circuit.ensures.circuit.latchs k d h).next)
+
+module _ (c : After-deref-4) where
+  abbrev x : Frame
+  x = frame_in c.copy_circuit.new.nodes.items c.in_ok-x.x.items
+
+  abbrev y : Frame
+  y = frame_in c.copy_circuit-2.new.nodes.items c.in_ok-y.y.items
+
+  abbrev next : Frame
+  next = frame_in c.copy_circuit-3.new.nodes.items c.in_ok-next.next.items
+
+  is_y : y ≡ beside (model_leaf c.args.shared.now) c.args.witness.now x
+  is_y =
+      c.in_ok-y.ensures.exact
+      ∙ ap (λ l. copy_after x.nodes c.args.witness.now
+      (shared_leaves (model_leaf c.args.shared.now) l no_leaf)) c.deref.ensures.value
+
+  is_next : next ≡ moved c.args.model.now x.images y.nodes
+  is_next =
+      c.in_ok-next.ensures.exact
+      ∙ ap₂ (λ latchs l. copy_after y.nodes c.args.model.now (next_leaves latchs l))
+      c.latchs.ensures.value c.deref-2.ensures.value
+
+pub copy_circuit-requires-4-clause-next : goal.copy_circuit-requires-4-clause-next
+copy_circuit-requires-4-clause-next c =
+    let witness = c.args.witness.now in
+    let last = (next c).nodes in
+    carry2 (λ latchs l. All (λ m. HasImage last l m.next.node_id) latchs) witness.latchs
+    c.latchs-2.result.now (y c).images c.deref-3.result.now (sym c.latchs-2.ensures.value)
+    (sym c.deref-3.ensures.value)
+    (λ k d h. has_image witness.nodes last (y c).images
+    (copy_y c.args.shared.now c.args.model.now witness
+    c.copy_circuit.ensures.circuit c.copy_circuit-2.ensures.circuit c.requires.shared
+    c.args.nodes.now.items c.requires.sound (x c) c.in_ok-x.ensures.exact (y c) (is_y c)
+    (next c) (is_next c)) _
+    (c.copy_circuit-2.ensures.circuit.latchs k d h).next)
 
 pub copy_circuit-requires-4-clause-others : goal.copy_circuit-requires-4-clause-others
 copy_circuit-requires-4-clause-others c =
-    let model = c.args.model.now in
-    let shared = c.args.shared.now in
-    let three = c.copy_circuit-3.new.nodes.items in
-    subst (λ l. All (λ p. HasImage three l p.0) shared) (sym c.deref-4.ensures.value)
-    (λ k d h.
-    has_image model three c.in_ok-next.next.items c.in_ok-next.ensures.frame.copy (get_or shared k
-    d).0
-    (kind_at-within model.nodes (get_or shared k d).0 Leaf (c.requires.shared.model_leaves k d h)))
+    subst (λ l. All (λ p. HasImage (next c).nodes l p.0) c.args.shared.now)
+    (sym c.deref-4.ensures.value)
+    (has_shared c.args.shared.now c.args.model.now c.args.witness.now c.requires.shared (next c)
+    (frame_next c.args.shared.now c.args.model.now c.args.witness.now
+    c.copy_circuit.ensures.circuit c.copy_circuit-2.ensures.circuit c.requires.shared
+    c.args.nodes.now.items c.requires.sound (x c) c.in_ok-x.ensures.exact (y c) (is_y c) (next c)
+    (is_next c)).copy)
 
-pub ask_transition-requires-clause-model : goal.ask_transition-requires-clause-model
-ask_transition-requires-clause-model c =
-    let nodes = c.args.model.now.nodes in
-    let frame = c.in_ok-x.ensures.frame in
-    let one = c.copy_circuit.new.nodes.items in
-    let two = c.copy_circuit-2.new.nodes.items in
-    let three = c.copy_circuit-3.new.nodes.items in
-    let four = c.copy_circuit-4.new.nodes.items in
-    subst (IsCopy nodes four) (sym c.deref-5.ensures.value)
-    (copy_stays nodes one four c.in_ok-x.x.items frame.copy.sound
-    (Grows-then one two four c.in_ok-y.ensures.frame.grows
-    (Grows-then two three four c.in_ok-next.ensures.frame.grows c.in_ok-z.ensures.frame.grows))
-    frame.copy)
+module _ (c : After-deref-12) where
+  abbrev before_z : After-deref-4
+  before_z = (goal.at.refuting_edge-requires-clause-premises c).After-deref-4
 
-pub ask_transition-requires-clause-model_next : goal.ask_transition-requires-clause-model_next
-ask_transition-requires-clause-model_next c =
-    let nodes = c.args.model.now.nodes in
-    let frame = c.in_ok-next.ensures.frame in
-    let three = c.copy_circuit-3.new.nodes.items in
-    let four = c.copy_circuit-4.new.nodes.items in
-    subst (IsCopy nodes four) (sym c.deref-6.ensures.value)
-    (copy_stays nodes three four c.in_ok-next.next.items frame.copy.sound
-    c.in_ok-z.ensures.frame.grows frame.copy)
+  abbrev z : Frame
+  z = frame_in c.copy_circuit-4.new.nodes.items c.in_ok-z.z.items
 
-pub ask_transition-requires-clause-witness : goal.ask_transition-requires-clause-witness
-ask_transition-requires-clause-witness c =
-    let nodes = c.args.witness.now.nodes in
-    let frame = c.in_ok-y.ensures.frame in
-    let two = c.copy_circuit-2.new.nodes.items in
-    let three = c.copy_circuit-3.new.nodes.items in
-    let four = c.copy_circuit-4.new.nodes.items in
-    subst (IsCopy nodes four) (sym c.deref-7.ensures.value)
-    (copy_stays nodes two four c.in_ok-y.y.items frame.copy.sound
-    (Grows-then two three four c.in_ok-next.ensures.frame.grows c.in_ok-z.ensures.frame.grows)
-    frame.copy)
+  is_z : z ≡ moved_beside (model_leaf c.args.shared.now) c.args.witness.now (y before_z).images
+      (next before_z)
+  is_z =
+      c.in_ok-z.ensures.exact
+      ∙ ap₂ (λ others given. copy_after (next before_z).nodes c.args.witness.now
+      (shared_leaves (model_leaf c.args.shared.now) others given)) c.deref-4.ensures.value
+      (ap₂ next_leaves c.latchs-2.ensures.value c.deref-3.ensures.value)
 
-pub returns-clause-asks : goal.returns-clause-asks
-returns-clause-asks c =
-    let shared = c.args.shared.now in
-    let model = c.args.model.now in
-    let witness = c.args.witness.now in
-    let old = c.args.nodes.now.items in
-    let one = c.copy_circuit.new.nodes.items in
-    let two = c.copy_circuit-2.new.nodes.items in
-    let three = c.copy_circuit-3.new.nodes.items in
-    let four = c.copy_circuit-4.new.nodes.items in
-    let new = c.ask_transition.new.nodes.items in
-    let x = c.in_ok-x.x.items in
-    let y = c.in_ok-y.y.items in
-    let next = c.in_ok-next.next.items in
-    let z = c.in_ok-z.z.items in
-    let frame_y = subst (λ l. IsFrame witness [] [] shared l one two y) c.deref.ensures.value
-    c.in_ok-y.ensures.frame in
-    let frame_next = carry2 (λ latchs before. IsFrame model latchs before [] [] two three next)
-    c.latchs.result.now model.latchs c.deref-2.result.now x c.latchs.ensures.value
-    c.deref-2.ensures.value c.in_ok-next.ensures.frame in
-    let frame_latchs = subst
-    (λ latchs. IsFrame witness latchs c.deref-3.result.now shared c.deref-4.result.now three four z)
-    c.latchs-2.ensures.value c.in_ok-z.ensures.frame in
-    let frame_z = carry2
-    (λ before others. IsFrame witness witness.latchs before shared others three four z)
-    c.deref-3.result.now y c.deref-4.result.now next c.deref-3.ensures.value
-    c.deref-4.ensures.value frame_latchs in
-    IfOk-weaker c.ask_transition.result _ _
-    (λ e is.
-    transition_decided shared model witness c.copy_circuit.ensures.circuit
-    c.copy_circuit-2.ensures.circuit c.requires.shared old one two x y c.in_ok-x.ensures.frame
-    frame_y three four next z frame_next frame_z new e
-    (carry2 (λ first second. Refutes model witness four new e first second y z)
-    c.deref-5.result.now x c.deref-6.result.now next c.deref-5.ensures.value
-    c.deref-6.ensures.value
-    (carry2 (Refutes model witness four new e c.deref-5.result.now c.deref-6.result.now)
-    c.deref-7.result.now y c.deref-8.result.now z c.deref-7.ensures.value c.deref-8.ensures.value
-    is))) c.ask_transition.ensures.refutes
+  premises : c.deref-11.result.now
+      ≡ constraint_claims c.args.model.now (x before_z).images
+      ++ constraint_claims c.args.model.now (next before_z).images
+      ++ constraint_claims c.args.witness.now (y before_z).images
+  premises =
+      c.deref-11.ensures.value
+      ∙ c.in_ok-push_constraints-3.ensures
+      ∙ ap₂ ◌++◌ (c.in_ok-push_constraints-2.ensures
+      ∙ ap₂ ◌++◌ (c.in_ok-push_constraints.ensures
+      ∙ ap₂ ◌++◌ c.new-premises.ensures.items
+      (ap (constraint_claims c.args.model.now) c.deref-5.ensures.value))
+      (ap (constraint_claims c.args.model.now) c.deref-6.ensures.value))
+      (ap (constraint_claims c.args.witness.now) c.deref-7.ensures.value)
+
+  conclusions : c.deref-12.result.now
+      ≡ move_claims c.args.witness.now (y before_z).images z.images
+      ++ constraint_claims c.args.witness.now z.images
+  conclusions =
+      c.deref-12.ensures.value
+      ∙ c.in_ok-push_constraints-4.ensures
+      ∙ ap₂ ◌++◌ (c.in_ok-push_moves.ensures
+      ∙ ap₂ ◌++◌ c.new-conclusions.ensures.items
+      (ap₂ (move_claims c.args.witness.now) c.deref-8.ensures.value c.deref-9.ensures.value))
+      (ap (constraint_claims c.args.witness.now) c.deref-10.ensures.value)
+
+pub refuting_edge-requires-clause-premises : goal.refuting_edge-requires-clause-premises
+refuting_edge-requires-clause-premises c =
+    let d = before_z c in
+    let are : c.deref-11.result.now
+    ≡ constraint_claims c.args.model.now (x d).images
+    ++ constraint_claims c.args.model.now (next d).images
+    ++ constraint_claims c.args.witness.now (y d).images =
+    c.deref-11.ensures.value ∙ c.in_ok-push_constraints-3.ensures
+    ∙ ap₂ ◌++◌ (c.in_ok-push_constraints-2.ensures
+    ∙ ap₂ ◌++◌ (c.in_ok-push_constraints.ensures
+    ∙ ap₂ ◌++◌ c.new-premises.ensures.items
+    (ap (constraint_claims c.args.model.now) c.deref-5.ensures.value))
+    (ap (constraint_claims c.args.model.now) c.deref-6.ensures.value))
+    (ap (constraint_claims c.args.witness.now) c.deref-7.ensures.value) in
+    subst (All (IsClaimIn c.copy_circuit-4.new.nodes.items)) (sym are)
+    (transition_premises c.args.shared.now c.args.model.now c.args.witness.now
+    c.copy_circuit.ensures.circuit c.copy_circuit-2.ensures.circuit c.requires.shared
+    c.args.nodes.now.items c.requires.sound (x d) c.in_ok-x.ensures.exact (y d) (is_y d) (next d)
+    (is_next d) (z c) (is_z c)).there
+
+pub refuting_edge-requires-clause-conclusions : goal.refuting_edge-requires-clause-conclusions
+refuting_edge-requires-clause-conclusions c =
+    let d = before_z c in
+    subst (All (IsClaimIn c.copy_circuit-4.new.nodes.items)) (sym (conclusions c))
+    (transition_conclusions c.args.shared.now c.args.model.now c.args.witness.now
+    c.copy_circuit.ensures.circuit c.copy_circuit-2.ensures.circuit c.requires.shared
+    c.args.nodes.now.items c.requires.sound (x d) c.in_ok-x.ensures.exact (y d) (is_y d) (next d)
+    (is_next d) (z c) (is_z c)).there
 
 pub returns-clause-exact : goal.returns-clause-exact
 returns-clause-exact c =
-    let shared = c.args.shared.now in
-    let model = c.args.model.now in
-    let witness = c.args.witness.now in
-    let one = c.copy_circuit.new.nodes.items in
-    let two = c.copy_circuit-2.new.nodes.items in
-    let three = c.copy_circuit-3.new.nodes.items in
-    let four = c.copy_circuit-4.new.nodes.items in
-    let new = c.ask_transition.new.nodes.items in
-    let x = c.in_ok-x.x.items in
-    let y = c.in_ok-y.y.items in
-    let next = c.in_ok-next.next.items in
-    let z = c.in_ok-z.z.items in
-    let frame_y = subst (λ l. IsFrame witness [] [] shared l one two y) c.deref.ensures.value
-    c.in_ok-y.ensures.frame in
-    let frame_next = carry2 (λ latchs before. IsFrame model latchs before [] [] two three next)
-    c.latchs.result.now model.latchs c.deref-2.result.now x c.latchs.ensures.value
-    c.deref-2.ensures.value c.in_ok-next.ensures.frame in
-    let frame_latchs = subst
-    (λ latchs. IsFrame witness latchs c.deref-3.result.now shared c.deref-4.result.now three four z)
-    c.latchs-2.ensures.value c.in_ok-z.ensures.frame in
-    let frame_z = carry2
-    (λ before others. IsFrame witness witness.latchs before shared others three four z)
-    c.deref-3.result.now y c.deref-4.result.now next c.deref-3.ensures.value
-    c.deref-4.ensures.value frame_latchs in
-    IfOk-weaker c.ask_transition.result _ _
-    (λ e is.
-    transition_asked model witness (model_leaf shared) c.args.nodes.now.items new e one two x y
-    c.in_ok-x.ensures.frame.exact frame_y.exact three four next z frame_next.exact frame_z.exact
-    (carry2 (λ first second. made_in new e ≡ make_transition four model witness first second y z)
-    c.deref-5.result.now x c.deref-6.result.now next c.deref-5.ensures.value
-    c.deref-6.ensures.value
-    (carry2 (λ third fourth. made_in new e
-    ≡ make_transition four model witness c.deref-5.result.now c.deref-6.result.now third fourth)
-    c.deref-7.result.now y c.deref-8.result.now z c.deref-7.ensures.value c.deref-8.ensures.value
-    is))) c.ask_transition.ensures.exact
+    let last = (goal.at.returns-clause-exact c).After-deref-12 in
+    let d = before_z last in
+    IfOk-weaker c.refuting_edge.result _ _
+    (λ e made.
+    transition_asked (model_leaf c.args.shared.now) c.args.model.now c.args.witness.now
+    c.args.nodes.now.items (made_in c.refuting_edge.new.nodes.items e) c.deref-11.result.now
+    c.deref-12.result.now (x d) (y d) c.in_ok-x.ensures.exact (is_y d) (next d) (z last)
+    (is_next d) (is_z last) made (premises last) (conclusions last)) c.refuting_edge.ensures

@@ -1,16 +1,6 @@
-use Rattle.aig_simulation.proofs.Words.{◌∙◌, ◌++◌, ◌∷◌, [], IfOk-weaker, List, ap₂, subst, sym, AigNode, Circuit, lists_circuit, model_leaf, AsksIf, Holds}
-use Rattle.aig_simulation.proofs.AskedCircuits.{asks_if}
+use Rattle.aig_simulation.proofs.Words.{AigNode, IfOk-weaker, List, [], ap₂, lists_circuit, made_in, model_leaf, ◌++◌, ◌∙◌, ◌∷◌}
 use Rattle.aig_simulation.proofs.Exactly.{question_is}
 use Rattle.aig_simulation.proofs.questions.whole_question.Goals as goal
-
-pub returns-clause-asks : goal.returns-clause-asks
-returns-clause-asks c =
-    let claim = Holds c.args.condition c.args.shared.now c.args.model.now c.args.witness.now in
-    IfOk-weaker c.with_bad.result _ _
-    (λ lists is.
-    subst (λ (q : Circuit). AsksIf claim q) (sym is)
-    (asks_if claim c.push.new.self.items c.asking_edge.new.nodes.items c.in_ok-bad.bad
-    c.in_ok-bad.ensures.asks)) c.with_bad.ensures
 
 pub returns-clause-exact : goal.returns-clause-exact
 returns-clause-exact c =
@@ -20,5 +10,6 @@ returns-clause-exact c =
     IfOk-weaker c.with_bad.result _ _
     (λ lists is.
     question_is c.args.condition (model_leaf c.args.shared.now) c.args.model.now c.args.witness.now
-    (lists_circuit lists) c.push.new.self.items c.asking_edge.new.nodes.items c.in_ok-bad.bad is
-    c.in_ok-bad.ensures.exact begins) c.with_bad.ensures
+    (lists_circuit lists) c.push.new.self.items
+    (made_in c.asking_edge.new.nodes.items c.in_ok-bad.bad) is c.in_ok-bad.ensures.exact begins)
+    c.with_bad.ensures

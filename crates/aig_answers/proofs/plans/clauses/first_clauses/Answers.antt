@@ -1,5 +1,4 @@
 use Rattle.aig_base.proofs.Words.{err_from_is_err_and, false≢true, refl, sym}
-use Rattle.aig_answers.proofs.AskedFiles.{asks_of}
 use Rattle.aig_answers.proofs.BoundedVerdicts.{other_value}
 use Rattle.aig_answers.proofs.plans.clauses.first_clauses.Goals as goal
 
@@ -10,17 +9,12 @@ returns-in_err-made-clause-large c =
 
 pub returns-then-is_settled-clause-makes : goal.returns-then-is_settled-clause-makes
 returns-then-is_settled-clause-makes c =
-    let made = c.in_ok-made.made in (
-      made,
-      asks_of c.args.circuit.now c.args.k c.args.optimize made c.in_ok-made.ensures.asks,
-      c.if-is_settled.ensures.0 refl,
-    )
+    (c.in_ok-made.made, c.in_ok-made.ensures.asks, c.if-is_settled.ensures.0 refl)
 
 pub returns-clause-makes : goal.returns-clause-makes
-returns-clause-makes c =
-    let made = c.in_ok-made.made in (
-      made,
-      asks_of c.args.circuit.now c.args.k c.args.optimize made c.in_ok-made.ensures.asks,
-      λ settled. false≢true (c.if-is_settled.ensures.1 settled),
-      sym c.into_clauses.ensures,
-    )
+returns-clause-makes c = (
+  c.in_ok-made.made,
+  c.in_ok-made.ensures.asks,
+  λ settled. false≢true (c.if-is_settled.ensures.1 settled),
+  sym c.into_clauses.ensures,
+)

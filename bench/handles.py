@@ -1,0 +1,101 @@
+#!/usr/bin/env python3
+"""Counts instructions of calls on circuits in memory, by callgrind: handles.py [GATES [STEPS]]
+
+A file of GATES (100000) random gates is read, written, given STEPS (5) further steps, and its
+clauses are taken. Each call is compared with what the command that does the same takes for that: a
+ratio above 1.05 fails, but for files and texts, which calls copy from memory to memory; a program's
+are copied by the system, which isn't counted. A call of `aig_circuit_new_and_node` fails where it
+takes more than 150 instructions beside the library's own function.
+"""
+from __future__ import annotations
+
+import dataclasses
+import re
+import subprocess
+import sys
+from collections.abc import Sequence
+from pathlib import Path
+
+from measuring import HERE, heads, make, row, run
+# Which measuring finds.
+from harness import EDIT, TESTS, TOOL, TOP, new_folder, parser
+
+MOST_RATIO, MOST_BESIDE = 1.05, 150
+COUNT = 20_000
+CALL, FUNCTION = "aig_circuit_new_and_node", "aig_build::build::new_and_node"
+# The instructions of a function, with those of what it calls, and its name but for its types.
+COST = re.compile(r"^ *([\d,]+) .*?:((?:aig|main)[\w:]*)(?:::<#\w+>)? \[", re.MULTILINE)
+
+
+@dataclasses.dataclass
+class Compared:
+    """A call, the words of the programs that make it and what it is compared with, and functions of
+    the command: what they take is added up, or the last's is taken off where `less` is so."""
+
+    call: str
+    words: list[str]
+    command: list[str]
+    functions: list[str]
+    less: bool = False
+    is_bounded: bool = True
+
+    def cost_of_command(self, costs: dict[str, int]) -> int:
+        found = [costs[name] for name in self.functions]
+        return found[0] - found[1] if self.less else sum(found)
+
+
+def compared(path: str, steps: str) -> list[Compared]:
+    """Returns what is compared on a file."""
+    reading = ["aig_reader::reader::read"]
+    printing = ["aig_writer::form::write_form", "aig::graph::Aig::check_writable"]
+    unrolling = ["aig_edit_commands::acting::write_made", "aig_writer::form::write_text"]
+    clauses = ["aig_tool_commands::clauses::print_clauses"]
+    text, unroll, cnf = ["text", path], ["unroll", path, steps], ["cnf", path, "0"]
+    return [
+        Compared("from_aiger", text, [TOOL, *text], reading, is_bounded=False),
+        Compared("write_text", text, [TOOL, *text], printing, is_bounded=False),
+        Compared("unroll_to", unroll, [EDIT, *unroll], unrolling, less=True),
+        Compared("cnf", cnf, [TOOL, *cnf], clauses),
+    ]
+
+
+def build(library: Path, folder: Path) -> str:
+    """Builds the program that makes calls."""
+    program = folder / "handles"
+    words: list[str | Path] = ["cc", "-O2", f"-I{TOP / 'include'}", HERE / "handles.c"]
+    subprocess.run([*words, library / "libaig.a", "-o", program], check=True)
+    return str(program)
+
+
+def costs(words: Sequence[str], folder: Path) -> dict[str, int]:
+    """Returns the instructions of each function of a run, with those of what it calls."""
+    counts = folder / "counts"
+    run(["valgrind", "--tool=callgrind", f"--callgrind-out-file={counts}", *words])
+    annotate = ["callgrind_annotate", "--inclusive=yes", "--threshold=100", str(counts)]
+    shown = subprocess.run(annotate, capture_output=True, text=True, check=True)
+    return {name: int(cost.replace(",", "")) for cost, name in COST.findall(shown.stdout)}
+
+
+def main() -> bool:
+    words = parser(__doc__, GATES=100_000, STEPS=5)
+    words.add_argument("--library", metavar="FOLDER", type=Path, help="where libaig.a is")
+    given, failed = words.parse_args(), False
+    with new_folder() as folder:
+        if not given.library:
+            subprocess.run([TESTS / "archive.py", folder], check=True)
+        program, path = build(given.library or folder, folder), str(folder / "random.aag")
+        make("random", given.GATES, path)
+        heads("call", "instructions", "the command's", "ratio")
+        for it in compared(path, str(given.STEPS)):
+            mine = costs([program, *it.words], folder)[f"aig_circuit_{it.call}"]
+            its = it.cost_of_command(costs(it.command, folder))
+            row(it.call, mine, its, f"{mine / its:.3f}")
+            failed |= it.is_bounded and mine > MOST_RATIO * its
+        found = costs([program, "and", str(COUNT)], folder)
+    mine, its = found[CALL] // COUNT, found[FUNCTION] // COUNT
+    row("new_and_node", mine, its, f"{mine - its} beside")
+    return failed or mine - its > MOST_BESIDE
+
+
+if __name__ == "__main__":
+    sys.exit(main())

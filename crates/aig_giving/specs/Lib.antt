@@ -1,0 +1,4 @@
+pub mod Edges
+pub mod Given
+pub mod Numbers
+pub mod Values

@@ -1,0 +1,32 @@
+//! Memory of the caller.
+
+ghost use Rattle.std.specs.Prelude.{◌≡◌};
+ghost use Rattle.aig_giving.specs.Given.{GivesMade, IsGiven};
+
+/// The call has done what it is for.
+pub const DONE: u32 = 0;
+/// The answer doesn't fit the caller's memory.
+pub const SMALL: u32 = 1;
+
+/// Copies items to the front of the caller's memory, where they fit, and says how many there are.
+pub fn give<T: Copy>(items: &[T], out: &mut [T], needed: &mut usize) -> u32
+    ensures { IsGiven result items.now out.old out.new needed.new }
+{
+    let count = items.len();
+    *needed = count;
+    if out.len() < count {
+        return SMALL;
+    }
+    out[..count].copy_from_slice(items);
+    DONE
+}
+
+/// Gives the items that were made, or says by its status why there are none.
+pub fn give_made<T: Copy>(made: Result<Vec<T>, u32>, out: &mut [T], needed: &mut usize) -> u32
+    ensures { GivesMade made result out.old out.new needed.old needed.new }
+{
+    match made {
+        Ok(items) => give(items.as_slice(), out, needed),
+        Err(status) => status,
+    }
+}

@@ -1,0 +1,5 @@
+pub mod Marks
+pub mod Places
+pub mod Refusals
+pub mod Room
+pub mod Taking

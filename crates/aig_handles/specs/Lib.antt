@@ -1,0 +1,10 @@
+pub mod Building
+pub mod Cones
+pub mod Connectives
+pub mod Files
+pub mod Handles
+pub mod Lists
+pub mod Questions
+pub mod Reading
+pub mod Simulating
+pub mod Transforms

@@ -1,9 +1,0 @@
-use Rattle.std.proofs.Common.{◌≡◌, ◌++◌, map, take}
-use Rattle.aig_circuit.specs.Edge.{inverse}
-use Rattle.aig_unroll.specs.Frame.{image_in}
-use Rattle.aig_simulation.proofs.edges.push_inverses.Given as goal
-
-abbrev pub invariant-loop-edge : goal.invariant-loop-edge
-invariant-loop-edge l =
-    l.all.items
-    ≡ l.fn.all.items ++ map (λ e. inverse (image_in l.images e)) (take l.edge-index l.edges)

@@ -1,0 +1,4 @@
+pub mod InOrder
+pub mod OfFiles
+pub mod Safe
+pub mod FilesRead

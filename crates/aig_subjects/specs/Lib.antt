@@ -1,0 +1,4 @@
+pub mod Reads
+pub mod Subjects
+pub mod Shown
+pub mod Parts

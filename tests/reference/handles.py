@@ -1,0 +1,93 @@
+"""What handles hold, why a call on them is refused, and the sum of all that they hold."""
+from __future__ import annotations
+
+import array
+import dataclasses
+import zlib
+from collections.abc import Sequence
+
+from reference.circuit import PROPERTIES, Circuit, Latch
+
+
+class Refused(Exception):
+    """The name of a call's status where that isn't DONE, and what is told all the same."""
+
+    def __init__(self, status: str, *told: int) -> None:
+        super().__init__(status)
+        self.status, self.told = status, told
+
+
+@dataclasses.dataclass
+class Handle:
+    """A handle, by its number, of a circuit or of none."""
+
+    place: int
+    held: Circuit | None = None
+
+    def circuit(self) -> Circuit:
+        if self.held is None:
+            raise Refused("EMPTY")
+        return self.held
+
+
+# ---- what is held, as numbers
+
+
+def node_row(circuit: Circuit, node: int) -> tuple[int, int, int]:
+    """Returns a node as the header has it: its kind and its operands."""
+    gate = circuit.nodes[node]
+    return (2, *gate) if gate else (int(node > 0), 0, 0)
+
+
+def latch_row(latch: Latch) -> tuple[int, int, int, int]:
+    """Returns a latch as the header has it."""
+    return latch.leaf, latch.next, latch.init or 0, int(latch.init is not None)
+
+
+def counted(items: Sequence[int]) -> list[int]:
+    return [len(items), *items]
+
+
+def circuit_words(circuit: Circuit) -> list[int]:
+    found = [len(circuit.nodes)]
+    for node in range(len(circuit.nodes)):
+        found += node_row(circuit, node)
+    found += [*counted(circuit.inputs), len(circuit.latches)]
+    for latch in circuit.latches:
+        found += latch_row(latch)
+    for edges in map(circuit.properties, PROPERTIES):
+        found += counted(edges)
+    found.append(len(circuit.justice))
+    for one in circuit.justice:
+        found += counted(one)
+    found.append(len(circuit.names))
+    for node, name in sorted(circuit.names.items()):
+        found += [node, *counted(name.encode())]
+    return found
+
+
+def words(handle: Handle) -> bytes:
+    """Returns the contents of a handle with its number, as the driver sums them up."""
+    held = circuit_words(handle.held) if handle.held else []
+    return array.array("I", [handle.place, *held]).tobytes()
+
+
+class Handles:
+    """The handles of a script."""
+
+    COUNT = 3
+
+    def __init__(self) -> None:
+        self.all = list(map(Handle, range(self.COUNT)))
+        self.words = list(map(words, self.all))
+
+    def held(self) -> list[Handle]:
+        """Returns the handles that hold a circuit."""
+        return [handle for handle in self.all if handle.held]
+
+    def note(self, handle: Handle) -> None:
+        """Notes that a handle may hold something else."""
+        self.words[handle.place] = words(handle)
+
+    def sum(self) -> int:
+        return zlib.crc32(b"".join(self.words))
