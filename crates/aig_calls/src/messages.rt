@@ -5,7 +5,8 @@ ghost use Rattle.aig_calls.specs.Calls.{IsGiven};
 
 use crate::buffer::give;
 use crate::status::{
-    BASE, CERTIFICATE, EMPTY, MEMORY, OTHER, PROOF, PROPERTY, QUERY, RESET, STEP, TRANSITION, WINDOW,
+    BASE, CERTIFICATE, EMPTY, MEMORY, OTHER, PROOF, PROPERTY, QUERY, RESET, STEP, TRANSITION,
+    WINDOW,
 };
 use aig_base::MemoryError;
 use std::alloc::Global;
