@@ -1,8 +1,11 @@
 """What a command line asks for: one question after the other, or a table."""
 import contextlib
+import math
 import os
 import signal
 import tempfile
+import threading
+import time
 from collections.abc import Iterator, Sequence
 
 from aigprove.designs.front_ends import LIVE, TranslationTimeout
@@ -11,14 +14,16 @@ from aigprove.engines.job import FAILED, OPEN, SAFE, UNSAFE
 from aigprove.options.options import Options
 from aigprove.output.messages import say
 from aigprove.processes.groups import adopt, bury, remove
-from aigprove.processes.scheduler import Scheduler, Scope
+from aigprove.processes.scheduler import Scheduler, Scope, Stopped
 from aigprove.questions.bad_states import BadStates
 from aigprove.questions.checker import Checker
 from aigprove.questions.target import Target
 
 # What guesses what corresponds in two files, and what asks about that.
 GUESSING = ["guesses", "scorr", "merging"]
-SIGNALS = [signal.SIGTERM, signal.SIGHUP, signal.SIGINT]
+SIGNALS = [signal.SIGTERM, signal.SIGHUP, signal.SIGINT, signal.SIGALRM]
+# How many seconds a question has to end by itself once its time is over.
+LATE = 0.4
 
 
 def targets(options: Options, above: str, checker: Checker) -> Iterator[Target]:
@@ -72,12 +77,13 @@ def asked(options: Options, above: str, checker: Checker) -> int:
             if statuses[-1] in (UNSAFE, FAILED) or options.aiger:
                 break
             scope.stop()
-    except TranslationTimeout as why:
-        if not inquiries:
+    except (TranslationTimeout, Stopped) as why:
+        if not statuses:
             raise
-        # The assertions have their answer, and the time was over while yosys made the file of what
-        # is asked next.
-        say(why)
+        # The assertions have their answer, and the time was over while the file of what is asked
+        # next was made.
+        end_all(checker.task.scheduler)
+        tell_late(why)
         print("nothing was shown of liveness")
         statuses.append(OPEN)
     finally:
@@ -104,6 +110,30 @@ def end_evidence(inquiries: Sequence[Inquiry]) -> None:
         kept[0][0].end()
 
 
+def tell_late(why: Exception) -> None:
+    """Says what was still at it when the time was over, if that is known."""
+    if str(why):
+        say(why)
+
+
+def end_late(_: int, __: object) -> None:
+    """Has the main thread give up what it does."""
+    raise Stopped
+
+
+@contextlib.contextmanager
+def limited(deadline: float) -> Iterator[None]:
+    """Gives up what the main thread does soon after a deadline, whatever that is."""
+    signal.signal(signal.SIGALRM, end_late)
+    if deadline < math.inf:
+        left = max(deadline - time.monotonic() + LATE, LATE)
+        signal.setitimer(signal.ITIMER_REAL, min(left, threading.TIMEOUT_MAX))
+    try:
+        yield
+    finally:
+        signal.setitimer(signal.ITIMER_REAL, 0)
+
+
 @contextlib.contextmanager
 def undisturbed() -> Iterator[None]:
     """Passes over signals for a little while, so that none leaves anything behind."""
@@ -113,6 +143,13 @@ def undisturbed() -> Iterator[None]:
     finally:
         for number, handler in before.items():
             signal.signal(number, handler)
+
+
+def end_all(scheduler: Scheduler) -> None:
+    """Ends all programs, and what they left."""
+    with undisturbed():
+        scheduler.stop()
+        bury()
 
 
 def answer(options: Options) -> int:
@@ -128,13 +165,14 @@ def answer(options: Options) -> int:
                             options.limit)
     above = tempfile.mkdtemp(prefix="aigprove-")
     try:
-        return (tabled if options.each else asked)(options, above, checker)
-    except TranslationTimeout as why:
-        say(why)
+        with limited(options.deadline):
+            return (tabled if options.each else asked)(options, above, checker)
+    except (TranslationTimeout, Stopped) as why:
+        end_all(scheduler)
+        tell_late(why)
         print("2\n." if options.aiger else "nothing was shown")
         return OPEN
     finally:
+        end_all(scheduler)
         with undisturbed():
-            scheduler.stop()
-            bury()
             remove(above)

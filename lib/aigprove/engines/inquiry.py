@@ -9,8 +9,8 @@ from aigprove.engines.portfolio import Portfolio, engines_of
 from aigprove.options.options import Options
 from aigprove.output.messages import say, show_progress
 from aigprove.output.printer import Printer
-from aigprove.processes.scheduler import Scope
-from aigprove.questions.checker import Checker, header_of
+from aigprove.processes.scheduler import Scope, Stopped
+from aigprove.questions.checker import Checker
 from aigprove.questions.target import Target
 
 if TYPE_CHECKING:
@@ -27,7 +27,6 @@ class Inquiry:
         task = scope.task("main")
         self.checker = checker.of(task)
         self.problem = Problem(options, source, self.checker, above)
-        self.header = header_of(self.problem.text)
         self.board = Board(Clock(options.deadline))
         self.job = Job(self.problem, task, self.board)
         self.evidence = self.kept() if options.keep else None
@@ -51,7 +50,7 @@ class Inquiry:
         if status != SAFE:
             self.printer.tell_no_certificate(
                 "the answer is a run" if status == UNSAFE else "there is no answer")
-        if status == SAFE and self.source.assumed(self.header):
+        if status == SAFE and self.source.assumed(self.problem.header):
             from aigprove.questions.assumptions import Assumptions
 
             status = self.status_of(Assumptions(self.source, self.checker))
@@ -68,7 +67,11 @@ class Inquiry:
         """Runs the engines, and returns the exit status of their answer."""
         portfolio = Portfolio(self.problem, self.scope, self.board, self.printer)
         engines = engines_of(self.problem)
-        status = portfolio.run(engines)
+        try:
+            status = portfolio.run(engines)
+        except Stopped:
+            self.scope.stop()
+            status = self.printer.status
         show_progress()
         if status is None and len(portfolio.failed) == len(engines):
             return FAILED
@@ -85,6 +88,8 @@ class Inquiry:
             found.look(self.job.solver(), least, self.options.deadline)
         except Fault as why:
             say(f"assumptions: {why}")
+        except Stopped:
+            self.scope.stop()
         if self.evidence:
             found.keep(self.evidence)
         self.printer.print_line(found.line(), found.is_empty())

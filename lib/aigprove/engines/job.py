@@ -13,7 +13,7 @@ import time
 from collections.abc import Mapping, Sequence
 from typing import NamedTuple, Protocol
 
-from aigprove.circuits.aiger import Circuit, Fault
+from aigprove.circuits.aiger import Circuit, Fault, Header
 from aigprove.circuits.normalised import NormalisedModel
 from aigprove.circuits.simulation import SIMULATED, reached
 from aigprove.circuits.witness import Witness, read_for
@@ -204,6 +204,11 @@ class Problem:
         return text
 
     @functools.cached_property
+    def header(self) -> Header:
+        """The header of the file."""
+        return header_of(self.text)
+
+    @functools.cached_property
     def circuit(self) -> Circuit:
         """The circuit of the file."""
         return self.checker.circuit(self.text, "FILE")
@@ -280,7 +285,7 @@ class Job:
 
     def hand_in_run(self, data: bytes) -> None:
         """Has aigcheck check a run to a bad state, and hands it in."""
-        trace = read_for(data, self.problem.circuit.header)
+        trace = read_for(data, self.problem.header)
         with self.answering():
             self.checker.check(self.problem.claimed(trace))
             others = self.source.others(self.problem.circuit, trace)

@@ -3,7 +3,6 @@ seconds each, then for eight, and so on. A portfolio about one prints nothing, a
 goes to its answer."""
 from __future__ import annotations
 
-import concurrent.futures
 import math
 import threading
 import time
@@ -18,7 +17,7 @@ from aigprove.options.options import Options
 from aigprove.output.evidence import ABOVE, Evidence, EvidenceFolder
 from aigprove.output.messages import is_fault, reason, report, say, show_progress
 from aigprove.output.report import PropertyAnswer
-from aigprove.processes.scheduler import Scheduler, Scope
+from aigprove.processes.scheduler import Scheduler, Scope, for_each
 from aigprove.questions.bad_states import BadStates, Property
 from aigprove.questions.checker import Checker, Claim
 from aigprove.questions.justice import Justice, Justices
@@ -98,7 +97,7 @@ class PropertyPortfolio:
         checker = owner.checker.of(self.scope.task("main"))
         self.problem = Problem(options, source, checker, owner.above)
         if circuit:
-            self.problem.circuit = circuit
+            self.problem.circuit, self.problem.header = circuit, circuit.header
         self.board = Board(Clock(owner.deadline), min(answer.steps for answer in answers))
         self.recorder = Recorder(owner, self.problem, self.board, answers)
         self.portfolio = Portfolio(self.problem, self.scope, self.board, self.recorder)
@@ -206,8 +205,7 @@ class SeparateProperties:
 
     def round(self, numbers: Sequence[int], seconds: float) -> None:
         """Asks about properties, at most as many at once as programs may run."""
-        with concurrent.futures.ThreadPoolExecutor(self.options.jobs) as pool:
-            list(pool.map(self.ask_alone, numbers, [seconds] * len(numbers)))
+        for_each(numbers, self.options.jobs, lambda number: self.ask_alone(number, seconds))
 
     def end_all(self) -> None:
         """Ends all that is asked."""

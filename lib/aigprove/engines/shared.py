@@ -3,12 +3,10 @@
 ABC's pdr is asked about all properties that are open, each for a second at most, then for four, and
 so on; beside its first run the other engines are asked about the whole file. What is left then is
 asked about alone."""
-import concurrent.futures
 import math
 import threading
 import time
-from collections.abc import Callable, Iterable, Sequence
-from typing import TypeVar
+from collections.abc import Iterable, Sequence
 
 from aigprove.circuits.aiger import Circuit, Fault
 from aigprove.circuits.witness import Witness
@@ -21,7 +19,7 @@ from aigprove.engines.separate import MORE, PropertyPortfolio, SeparatePropertie
 from aigprove.options.options import Options
 from aigprove.output.evidence import ABOVE, EvidenceFolder
 from aigprove.processes.files import Sealed
-from aigprove.processes.scheduler import Scope, Stopped
+from aigprove.processes.scheduler import Scope, Stopped, for_each
 from aigprove.questions.bad_states import BadStates, FileAbove
 from aigprove.questions.checker import Checker
 
@@ -30,7 +28,6 @@ from aigprove.questions.checker import Checker
 PASS, WHOLE, SHORTER = 1, 2, 2
 # Engines that aren't asked about the whole file beside pdr.
 OF_ABC = {"pdr", "bmc3"}
-T = TypeVar("T")
 
 
 class SharedProperties(SeparateProperties):
@@ -88,8 +85,8 @@ class SharedProperties(SeparateProperties):
             command = PDR.format(each=1000 * seconds)
             runs, certificate = abc.ask(self.cones.of(numbers), command)
             self.is_checking = True
-            self.in_turn(self.take_run, [(numbers[place], run, "pdr")
-                                         for place, run in runs.items()])
+            for_each([(numbers[place], run, "pdr") for place, run in runs.items()],
+                     self.options.jobs, self.take_run)
             self.shorten(abc)
             if certificate:
                 self.take_certificate(certificate)
@@ -114,9 +111,9 @@ class SharedProperties(SeparateProperties):
                 numbers, limit = list(lengths), 0 if seconds == math.inf else math.ceil(seconds)
                 command = BMC.format(steps=max(lengths.values()) - 1, seconds=limit)
                 runs, _ = abc.ask(self.cones.of(numbers), command)
-                found = {numbers[place]: run for place, run in runs.items()}
-                self.in_turn(self.take_run, [(number, run, "bmc3") for number, run in found.items()
-                                             if len(run[1]) < lengths[number]])
+                found = [(numbers[place], run, "bmc3") for place, run in runs.items()
+                         if len(run[1]) < lengths[numbers[place]]]
+                for_each(found, self.options.jobs, self.take_run)
 
     def settle(self) -> None:
         """Has shorter runs checked if engines that were asked about one left longer ones."""
@@ -148,8 +145,8 @@ class SharedProperties(SeparateProperties):
         numbers = self.open()
         is_whole = len(numbers) == len(self.answers)
         if not is_whole or not self.is_certified(self.of_all(), certificate):
-            self.in_turn(lambda number: self.is_certified(self.portfolio(number), certificate),
-                         numbers)
+            for_each(numbers, self.options.jobs,
+                     lambda number: self.is_certified(self.portfolio(number), certificate))
 
     def is_certified(self, portfolio: PropertyPortfolio, certificate: Sealed) -> bool:
         """Returns whether a certificate shows what is asked."""
@@ -161,11 +158,6 @@ class SharedProperties(SeparateProperties):
         portfolio.portfolio.take(0)
         portfolio.recorder.close()
         return True
-
-    def in_turn(self, call: Callable[[T], object], items: Sequence[T]) -> None:
-        """Makes a call for each of some items, several at once."""
-        with concurrent.futures.ThreadPoolExecutor(self.options.jobs) as pool:
-            list(pool.map(call, items))
 
     def together(self) -> None:
         """Asks the others about the whole file, as long as no property is reached."""

@@ -165,7 +165,7 @@ class Bounded(Asking):
 
     def last(self, run: bytes) -> int:
         """Returns the last step of a run."""
-        return len(read_for(run, self.job.problem.circuit.header).steps) - 1
+        return len(read_for(run, self.job.problem.header).steps) - 1
 
 
 class Windows(Asking):
@@ -204,6 +204,6 @@ class Windows(Asking):
 
     def forms(self, k: int) -> list[tuple[str, ...]]:
         """Returns the forms of clauses of windows that are asked about."""
-        latches = self.job.problem.circuit.header.latches
+        latches = self.job.problem.header.latches
         is_small = latches and latches * (k + 2) * (k + 2) <= PAIRS
         return [(), ("distinct",)] if is_small else [()]

@@ -72,7 +72,7 @@ class Pair(Target):
             second = reading.result()
         except BaseException:
             self.checker.task.scheduler.stop()
-            reading.join()
+            reading.give_up()
             raise
         second.say_left_out(design)
         return first, second

@@ -1,7 +1,6 @@
 """What was kept of answers, here before or on another machine.
 
 Each line is believed once aigcheck prints it again, of the file that is asked about now."""
-import concurrent.futures
 import json
 import os
 import re
@@ -16,6 +15,7 @@ from aigprove.output.evidence import ABOVE, EVIDENCE, EvidenceFolder
 from aigprove.output.messages import reason, say
 from aigprove.output.report import PropertyAnswer
 from aigprove.processes.files import NODE, Sealed
+from aigprove.processes.scheduler import for_each
 from aigprove.questions.assumptions import ENDLESS
 from aigprove.questions.bad_states import BadStates
 from aigprove.questions.checker import Checker, Claim, header_of
@@ -202,9 +202,8 @@ class Gathered:
 
     def take(self, jobs: int) -> None:
         """Has all lines checked, several at once, and puts what follows into the answers."""
-        with concurrent.futures.ThreadPoolExecutor(jobs) as pool:
-            found = pool.map(lambda pair: self.checked(*pair), list(self.lines()))
-            self.found = [it for it in found if it]
+        found = for_each(list(self.lines()), jobs, lambda pair: self.checked(*pair))
+        self.found = [it for it in found if it]
         for part in self.parts:
             for answer in part.answers:
                 conclude(answer, [it for it in self.found if it.part is part

@@ -12,7 +12,7 @@ from typing import TYPE_CHECKING
 from aigprove.circuits.aiger import Fault
 from aigprove.circuits.minimal import SMALL, minimal, simulated
 from aigprove.circuits.witness import Witness
-from aigprove.engines.job import (OPEN, SAFE, UNSAFE, Answer, Certified, CountedRounds, Induction,
+from aigprove.engines.job import (SAFE, UNSAFE, Answer, Certified, CountedRounds, Induction,
                                   Job, RunFound, StepShown)
 from aigprove.output.messages import report, say, show_progress
 from aigprove.output.signals import Signals
@@ -42,6 +42,7 @@ class RunPrinter:
         circuit, options, printer = self.source.circuit(), self.options, self.printer
         signals = Signals(circuit)
         printer.print_line(self.source.found(signals, traces), True)
+        printer.status = UNSAFE
         is_written = options.aiger or options.keep or options.witness or options.vcd
         if options.quiet and not is_written:
             return
@@ -108,6 +109,8 @@ class Printer:
         # The last line that was printed, and what prints the run that was found.
         self.last: str | None = None
         self.run = RunPrinter(job, self)
+        # The exit status, once the line of the answer is printed.
+        self.status: int | None = None
 
     def take(self, engine: str, answer: Answer) -> int | None:
         status, seconds = self.print_answer(answer), self.board.clock.seconds()
@@ -141,6 +144,7 @@ class Printer:
         if isinstance(answer, Induction):
             self.print_claim(answer.window, self.source.prefix)
         self.print_claim(answer.claim, is_answer=True)
+        self.status = SAFE
         self.certify(answer)
         return SAFE
 
@@ -175,8 +179,9 @@ class Printer:
         if trace := self.run.trace:
             print(self.source.of_file(trace).text(), end="", flush=True)
             return
-        places = "".join(self.source.places(self.job.problem.circuit))
-        reported = {SAFE: 0, UNSAFE: 1, OPEN: 2}[status]
+        places = "".join(self.source.places(self.job.problem.header))
+        # Without a run that reaches one it isn't known.
+        reported = 0 if status == SAFE else 2
         print(f"{reported}\n{places}\n.\n", end="", flush=True)
 
     # Certificates.

@@ -1,6 +1,5 @@
 """The table of all properties: what is asked, or gathered, and what is printed and written of
 it."""
-import concurrent.futures
 import functools
 import os
 import resource
@@ -22,6 +21,8 @@ from aigprove.output.messages import say, show_progress
 from aigprove.output.report import Report
 from aigprove.output.signals import Signals
 from aigprove.processes.files import write
+from aigprove.processes.groups import BackgroundCall
+from aigprove.processes.scheduler import Stopped
 from aigprove.questions.assumptions import SECONDS, Assumptions
 from aigprove.questions.bad_states import BadStates, Covers, FileAbove
 from aigprove.questions.checker import Checker, header_of
@@ -97,14 +98,16 @@ class Table:
             for line in commands.lines(self.options, self.sources, self.answers):
                 print(line)
             return OPEN
-        self.gather()
+        # What was answered by the time when something ends that is printed.
         try:
+            self.gather()
             self.ask(self.parts if not self.options.gather else [])
+            self.look_at_assumptions()
+        except Stopped:
+            self.checker.task.scheduler.stop()
         except (KeyboardInterrupt, SystemExit):
-            # What was answered by then is printed.
             self.print()
             raise
-        self.look_at_assumptions()
         self.print()
         self.write()
         is_known = any(answer.is_answered or answer.steps for answer in self.answers)
@@ -123,20 +126,22 @@ class Table:
 
     def ask(self, parts: Sequence[SeparateProperties]) -> None:
         """Asks about what has no answer yet, and shows how many have, on a terminal."""
-        with concurrent.futures.ThreadPoolExecutor(max(len(parts), 1)) as pool:
-            futures = [pool.submit(part.run) for part in parts]
-            try:
-                while concurrent.futures.wait(futures, TICK).not_done:
-                    count = sum(answer.is_answered for answer in self.answers)
-                    seconds = time.monotonic() - self.begun
-                    show_progress(f"{count} of {len(self.answers)} answered: {seconds:.0f} s")
-            finally:
-                for part in parts:
-                    part.stop()
-                self.checker.task.scheduler.bury()
-                show_progress()
-        for future in futures:
-            future.result()
+        calls = [BackgroundCall(part.run) for part in parts]
+        try:
+            while left := [call for call in calls if call.is_alive()]:
+                left[0].join(TICK)
+                count = sum(answer.is_answered for answer in self.answers)
+                seconds = time.monotonic() - self.begun
+                show_progress(f"{count} of {len(self.answers)} answered: {seconds:.0f} s")
+        finally:
+            for part in parts:
+                part.stop()
+            for call in calls:
+                call.give_up()
+            self.checker.task.scheduler.bury()
+            show_progress()
+        for call in calls:
+            call.result()
 
     def look_at_assumptions(self) -> None:
         """Looks up to which step the assumptions can be met, if there are some.

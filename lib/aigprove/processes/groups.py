@@ -23,6 +23,8 @@ if TYPE_CHECKING:
 
 T = TypeVar("T")
 SUBREAPER = 36
+# How many seconds a call has to end by itself, whose programs were ended.
+SOON = 0.2
 # How many bytes a file has whose check is told of while it is read.
 LONG = 1 << 22
 # What Python runs, with the module of this package and the folder that the package is in.
@@ -53,6 +55,10 @@ class BackgroundCall(threading.Thread, Generic[T]):
         if self.error:
             raise self.error
         return self.given[0]
+
+    def give_up(self) -> None:
+        """Waits a little for the call's end, once all that it waits for was ended."""
+        self.join(SOON)
 
 
 def adopt() -> bool:

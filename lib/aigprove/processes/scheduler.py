@@ -7,8 +7,8 @@ import signal
 import tempfile
 import threading
 import time
-from collections.abc import Callable, Collection, Iterator
-from typing import TYPE_CHECKING, Any
+from collections.abc import Callable, Collection, Iterable, Iterator
+from typing import TYPE_CHECKING, Any, TypeVar
 
 from aigprove.circuits.aiger import Fault
 from aigprove.output.messages import plain, unnamed
@@ -18,6 +18,8 @@ from aigprove.processes.groups import Group, Keeper, Words, bury
 if TYPE_CHECKING:
     from aigprove.processes.fork_server import ForkServer
 
+S = TypeVar("S")
+T = TypeVar("T")
 # Seconds that an engine may have run longer than another that waits.
 TURN = 0.25
 # Seconds for which an engine's answer is checked before others go on.
@@ -284,6 +286,23 @@ class Scheduler:
         with self.lock:
             self.is_stopped = True
         self.end(lambda _: True)
+
+
+def for_each(items: Iterable[S], jobs: int, call: Callable[[S], T]) -> list[T]:
+    """Returns what a call returns for each of some items, so many at once.
+
+    Calls whose work was given up aren't waited for."""
+    # It takes a while to be imported.
+    from concurrent.futures import ThreadPoolExecutor
+
+    pool, is_awaited = ThreadPoolExecutor(jobs), True
+    try:
+        return list(pool.map(call, items))
+    except Stopped:
+        is_awaited = False
+        raise
+    finally:
+        pool.shutdown(wait=is_awaited, cancel_futures=True)
 
 
 def weight(group: Group) -> float:

@@ -191,7 +191,7 @@ class Property(Target):
     def warnings(self) -> Iterator[str]:
         return self.whole.warnings()
 
-    def places(self, circuit: Circuit) -> list[str]:
+    def places(self, header: Header) -> list[str]:
         return [f"b{self.number}"]
 
     def of_file(self, trace: Witness) -> Witness:

@@ -5,7 +5,7 @@ liveness assertion of a design is a justice property of a file of its own: a fai
 fails."""
 from collections.abc import Iterable, Iterator, Mapping, Sequence
 
-from aigprove.circuits.aiger import Circuit, Fault, decoded
+from aigprove.circuits.aiger import Circuit, Fault, Header, decoded
 from aigprove.circuits.witness import Witness
 from aigprove.designs.front_ends import FAIR, LIVE
 from aigprove.options.options import Options
@@ -132,7 +132,7 @@ class Justice(Target):
         if self.given.design:
             yield f"j{self.number}: {self.given.design.assertion(self.number)[0]}"
 
-    def places(self, circuit: Circuit) -> list[str]:
+    def places(self, header: Header) -> list[str]:
         return [f"j{self.number}"]
 
     def of_file(self, trace: Witness) -> Witness:

@@ -118,9 +118,9 @@ class Target:
         """Returns those of some witnesses of one run that are printed."""
         return traces
 
-    def places(self, circuit: Circuit) -> list[str]:
+    def places(self, header: Header) -> list[str]:
         """Returns how the AIGER report names what is asked about, in the file that was given."""
-        return [f"b{i}" for i in range(len(circuit.bads))]
+        return [f"b{i}" for i in range(header.bads)]
 
     def is_fair(self) -> bool:
         """Returns whether it is about runs without end, some of which fairness leaves out."""
