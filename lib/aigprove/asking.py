@@ -15,7 +15,7 @@ from aigprove.options.options import Options
 from aigprove.output.messages import say
 from aigprove.processes.groups import adopt, bury, remove
 from aigprove.processes.scheduler import Scheduler, Scope, Stopped
-from aigprove.questions.bad_states import BadStates
+from aigprove.questions.bad_states import BadStates, Property
 from aigprove.questions.checker import Checker
 from aigprove.questions.target import Target
 
@@ -44,18 +44,11 @@ def targets(options: Options, above: str, checker: Checker) -> Iterator[Target]:
     source = BadStates(options, above, checker)
     is_later = source.has_later(options.design.later & {LIVE})
     if not is_later or source.given.design and source.given.design.assertions:
-        yield source if options.property is None else property_of(source, options.property)
+        yield source if options.property is None else Property(source, options.property)
     if is_later:
         from aigprove.questions.justice import lives
 
         yield from lives(options, above, checker, source.given).each()
-
-
-def property_of(source: BadStates, number: int) -> Target:
-    """Returns one property of a file."""
-    from aigprove.questions.bad_states import Property
-
-    return Property(source, number)
 
 
 def asked(options: Options, above: str, checker: Checker) -> int:
@@ -156,7 +149,8 @@ def answer(options: Options) -> int:
     """Answers what a command line asks, and returns the exit status."""
     # Processes are forked before there are threads.
     scheduler = Scheduler(options.jobs, options.memory)
-    if adopt() and options.equal:
+    adopt()
+    if options.equal:
         from aigprove.processes.fork_server import ForkServer
 
         scheduler.server = ForkServer(GUESSING)

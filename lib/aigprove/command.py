@@ -5,7 +5,7 @@ import sys
 from collections.abc import Sequence
 from typing import IO, NoReturn
 
-from aigprove.options.parse import parse
+from aigprove.options.parser import parse
 from aigprove.output.messages import report
 
 # The exit status if something went wrong.

@@ -210,23 +210,16 @@ class Circuit:
         if all(places[left & ~1] < i > places[right & ~1]
                for i, (_, left, right) in enumerate(self.gates, len(leaves))):
             return
+        # Few files need it.
+        from graphlib import CycleError, TopologicalSorter
+
         gates = {gate: (gate, left, right) for gate, left, right in self.gates}
-        known, begun, self.gates = {0, *self.inputs, *self.latches}, set[int](), []
-        path = list(reversed(gates))
-        while path:
-            literal = path[-1]
-            below = [] if literal in known else [under & ~1 for under in gates[literal][1:]
-                                                 if under & ~1 not in known]
-            if not below:
-                path.pop()
-                if literal not in known:
-                    known.add(literal)
-                    self.gates.append(gates[literal])
-                continue
-            begun.add(literal)
-            if below[0] in begun:
-                raise Fault(f"gate {literal} stands on itself in {self.what}")
-            path.append(below[0])
+        below = {gate: [it & ~1 for it in operands if it & ~1 in gates]
+                 for gate, *operands in self.gates}
+        try:
+            self.gates = [gates[literal] for literal in TopologicalSorter(below).static_order()]
+        except CycleError as why:
+            raise Fault(f"gate {max(why.args[1])} stands on itself in {self.what}") from None
 
     def opened(self) -> list[int]:
         """Returns the places of the latches that are uninitialised."""
@@ -261,13 +254,18 @@ class Circuit:
 
     def read_by(self, literal: int) -> set[int]:
         """Returns the places of the latches that a literal reads in the same step."""
-        gates, left, seen = {gate: operands
-                             for gate, *operands in self.gates}, [literal & ~1], set()
-        while left:
-            if (it := left.pop()) not in seen:
-                seen.add(it)
-                left += [operand & ~1 for operand in gates.get(it, [])]
+        seen = cone([literal], {gate: operands for gate, *operands in self.gates})
         return {i for i, latch in enumerate(self.latches) if latch in seen}
+
+
+def cone(literals: Iterable[int], below: Mapping[int, Sequence[int]]) -> set[int]:
+    """Returns the nodes that literals read, by their literals, where these stand below nodes."""
+    left, seen = [literal & ~1 for literal in literals], set[int]()
+    while left:
+        if (it := left.pop()) not in seen:
+            seen.add(it)
+            left += [literal & ~1 for literal in below.get(it, ())]
+    return seen
 
 
 def text_form(counts: Iterable[int], lines: Iterable[object]) -> bytes:

@@ -1,10 +1,13 @@
 """ABC, whose counterexamples become witnesses and whose invariants become certificates: on a file,
 on several of its properties at once, and on files that count rounds of a justice property."""
+from __future__ import annotations
+
 import functools
 import shutil
 from collections.abc import Iterable, Mapping, Sequence
+from typing import TYPE_CHECKING, cast
 
-from aigprove.circuits.aiger import Circuit, Fault
+from aigprove.circuits.aiger import Circuit, Fault, cone
 from aigprove.circuits.normalised import NormalisedModel, parted
 from aigprove.circuits.simulation import reached
 from aigprove.circuits.witness import Witness
@@ -17,6 +20,9 @@ from aigprove.processes.groups import Words
 from aigprove.processes.scheduler import Task
 from aigprove.questions.checker import Checker, Claim
 from aigprove.questions.target import Target
+
+if TYPE_CHECKING:
+    from aigprove.questions.justice import Justice
 
 ABCS = ["berkeley-abc", "yosys-abc", "abc"]
 # All properties, each for so many thousandths of a second at most; and the first runs to
@@ -125,11 +131,7 @@ class Cones:
         """Returns the circuit with the properties of these numbers."""
         circuit = self.circuit
         bads = [circuit.bads[number] for number in numbers]
-        left, seen = [literal & ~1 for literal in [*bads, *circuit.constraints]], set()
-        while left:
-            if (it := left.pop()) not in seen:
-                seen.add(it)
-                left += [literal & ~1 for literal in self.below.get(it, [])]
+        seen = cone([*bads, *circuit.constraints], self.below)
         nexts = [next if latch in seen else 0
                  for latch, next in zip(circuit.latches, circuit.nexts)]
         gates = [gate for gate in circuit.gates if gate[0] in seen]
@@ -141,7 +143,7 @@ class CountedFile(Target):
 
     can_be_simulated = False
 
-    def __init__(self, justice: Target, checker: Checker, count: int) -> None:
+    def __init__(self, justice: Justice, checker: Checker, count: int) -> None:
         self.justice, self.checker, self.count = justice, checker, count
         self.path, self.name = justice.path, f"rounds-{count}.aag"
 
@@ -151,9 +153,8 @@ class CountedFile(Target):
     def circuit(self) -> Circuit:
         return self.checker.circuit(self.asked, "FILE")
 
-    def certified(self, certificate: Sealed, proofs: Mapping[str, Sealed], *form: str) -> Claim:
-        """Returns that no run shows the property, by a certificate and proofs about both."""
-        return self.justice.certified(certificate, proofs, "--rounds", str(self.count))
+    def unreached(self, command: str, words: Sequence[str], files: Mapping[str, Sealed]) -> Claim:
+        return self.justice.unreached(command, words, files, ["--rounds", str(self.count)])
 
 
 class CountingProblem(Problem):
@@ -173,7 +174,7 @@ class Counting(Job):
     A run says that so many rounds can end, and nothing of the property."""
 
     def __init__(self, job: Job, count: int) -> None:
-        source = CountedFile(job.problem.source, job.checker, count)
+        source = CountedFile(cast("Justice", job.source), job.checker, count)
         problem = CountingProblem(job.options, source, job.checker, job.above)
         super().__init__(problem, job.task, job.board)
         self.count, self.is_reached, self.bound = count, False, None

@@ -1,9 +1,10 @@
-"""Certificates, and invariants that ABC wrote: what aigcheck is asked about them."""
+"""Certificates, and invariants that ABC wrote: what aigcheck is asked about them; and what somebody
+else found, and the command line gives."""
 from collections.abc import Callable, Iterator, Mapping
 
 from aigprove.circuits import simulation
 from aigprove.circuits.aiger import Circuit, Fault
-from aigprove.circuits.normalised import PLA
+from aigprove.circuits.normalised import PLA, of_abc
 from aigprove.engines.job import Job
 from aigprove.output.signals import Signals
 from aigprove.processes.files import Sealed
@@ -108,6 +109,35 @@ class Certificate:
         if made is None:
             raise Fault("the invariant names other latches than the file's")
         return Sealed(made)
+
+
+class GivenCertificate(Certificate):
+    """A certificate, sealed."""
+
+    def __init__(self, job: Job) -> None:
+        assert job.options.certificate
+        super().__init__(job, job.solver(), job.options.certificate)
+
+
+class GivenRun:
+    """A run to a bad state, sealed: a witness, or a counterexample of ABC's."""
+
+    def __init__(self, job: Job) -> None:
+        self.job = job
+
+    def run(self) -> None:
+        """Has it checked, and hands it in."""
+        assert self.job.options.run
+        data = self.job.options.run.data()
+        if data.startswith((b"1\nb", b"c")):
+            self.job.hand_in_run(data)
+            return
+        run = of_abc(data.decode("utf-8", "replace"), self.job.problem.circuit)
+        trace = self.job.reached(*run) if run else None
+        if trace is None:
+            raise Fault("WITNESS is neither a witness nor a counterexample of ABC that reaches a "
+                        "bad state")
+        self.job.hand_in_run(trace.text().encode())
 
 
 def broken(joint: Circuit, name: str, solution: Sealed) -> str:

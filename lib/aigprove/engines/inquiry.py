@@ -29,16 +29,13 @@ class Inquiry:
         self.problem = Problem(options, source, self.checker, above)
         self.board = Board(Clock(options.deadline))
         self.job = Job(self.problem, task, self.board)
-        self.evidence = self.kept() if options.keep else None
+        self.evidence: Evidence | None = None
+        if options.keep:
+            from aigprove.output import evidence
+
+            self.evidence = evidence.Evidence(options.keep, self.checker, options.limit)
+            source.keep(self.evidence)
         self.printer = Printer(self.job, self.evidence)
-
-    def kept(self) -> Evidence:
-        """Returns what is kept, which begins with the file."""
-        from aigprove.output import evidence
-
-        made = evidence.Evidence(self.options.keep or "", self.checker, self.options.limit)
-        self.source.keep(made)
-        return made
 
     def run(self) -> int:
         """Asks the engines, prints the answer, and returns the exit status."""
@@ -55,9 +52,9 @@ class Inquiry:
 
             status = self.status_of(Assumptions(self.source, self.checker))
         if status == SAFE and self.source.is_fair():
-            from aigprove.questions.assumptions import endless_of
+            from aigprove.questions.assumptions import Endless
 
-            status = self.status_of(endless_of(self.source, self.checker))
+            status = self.status_of(Endless(self.source, self.checker))
         if not self.options.aiger or status == FAILED:
             return status
         self.printer.print_report(status)

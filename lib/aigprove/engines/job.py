@@ -1,7 +1,7 @@
 """What an engine is given, and what it hands in.
 
 It is a job on a problem, with a task for its programs and a board for its answers. Protocols say
-what a portfolio expects of engines, of what is asked about, and of what hears answers."""
+what a portfolio expects of engines, and of what hears answers."""
 from __future__ import annotations
 
 import contextlib
@@ -10,7 +10,7 @@ import queue
 import re
 import threading
 import time
-from collections.abc import Mapping, Sequence
+from collections.abc import Callable, Sequence
 from typing import NamedTuple, Protocol
 
 from aigprove.circuits.aiger import Circuit, Fault, Header
@@ -27,40 +27,6 @@ from aigprove.questions.target import Target
 
 # What an answer comes to, which is the exit status.
 SAFE, UNSAFE, OPEN, FAILED = 20, 10, 0, 1
-
-
-class Source(Protocol):
-    """What engines ask about: a file, and what aigcheck says of it once they have evidence."""
-
-    # What stands before lines about the file, and about one step of it.
-    prefix: str
-    of_step: str
-    # Whether there are files that count its rounds, and whether a certificate may be a witness
-    # circuit that simulates it.
-    counts: bool
-    can_be_simulated: bool
-
-    @property
-    def asked(self) -> Sealed:
-        """The file."""
-
-    def circuit(self) -> Circuit:
-        """Returns the circuit in which a run is printed."""
-
-    def others(self, circuit: Circuit, trace: Witness) -> list[Witness]:
-        """Returns further witnesses of what a run shows."""
-
-    def mattering(self, traces: Sequence[Witness]) -> Sequence[Witness]:
-        """Returns those of some witnesses of one run that are printed."""
-
-    def unsolvable(self, question: Question, proof: Sealed) -> Claim:
-        """Returns that a question has no solution, by a proof."""
-
-    def proved(self, question: Question, base: Sealed, window: Question, step: Sealed) -> Claim:
-        """Returns that no step is bad, by proofs of the steps up to K and of a window."""
-
-    def certified(self, certificate: Sealed, proofs: Mapping[str, Sealed], *form: str) -> Claim:
-        """Returns that no step is bad, by a certificate and proofs about both."""
 
 
 class Engine(Protocol):
@@ -81,13 +47,6 @@ class Sink(Protocol):
 
     def show_progress(self) -> None:
         """Shows what is being done."""
-
-
-class Make(Protocol):
-    """What makes an engine of a job."""
-
-    def __call__(self, job: Job) -> Engine:
-        """Returns the engine."""
 
 
 class StepShown(NamedTuple):
@@ -132,6 +91,8 @@ class Ended(NamedTuple):
 
 
 Answer = StepShown | Induction | Certified | CountedRounds | RunFound
+# What makes an engine of a job.
+Make = Callable[["Job"], Engine]
 
 
 class Clock:
@@ -245,7 +206,7 @@ class Job:
     def __init__(self, problem: Problem, task: Task, board: Board) -> None:
         self.problem, self.task, self.board = problem, task, board
         self.options, self.above = problem.options, problem.above
-        self.source: Source = problem.source
+        self.source = problem.source
         self.checker, self.bound = problem.checker.of(task), problem.options.bound
 
     def solver(self) -> Solver:

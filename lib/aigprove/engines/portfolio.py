@@ -18,7 +18,7 @@ def engines_of(problem: Problem) -> dict[str, Make]:
     """Returns the engines that are asked for, by their names."""
     options, engines = problem.options, dict[str, Make]()
     if options.certificate or options.run:
-        from aigprove.engines.given import GivenCertificate, GivenRun
+        from aigprove.engines.certificate import GivenCertificate, GivenRun
 
         engines |= {"certificate": GivenCertificate} if options.certificate else {}
         engines |= {"run": GivenRun} if options.run else {}

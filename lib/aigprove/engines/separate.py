@@ -27,13 +27,37 @@ from aigprove.questions.target import Target
 ALONE, MORE = 2, 4
 
 
-class Recorder:
-    """A sink that keeps answers of one property, or of all, and what shows them."""
+class PropertyPortfolio:
+    """Engines that are asked about the property of some answers, or about all properties.
 
-    def __init__(self, owner: SeparateProperties, problem: Problem, board: Board,
-                 answers: Sequence[PropertyAnswer]) -> None:
-        self.owner, self.problem, self.board, self.answers = owner, problem, board, answers
+    It is a sink that keeps what they answer, and what shows it."""
+
+    def __init__(self, owner: SeparateProperties, source: Target,
+                 answers: Sequence[PropertyAnswer], circuit: Circuit | None = None,
+                 engines: Iterable[str] = ()) -> None:
+        self.owner, self.answers = owner, answers
         self.evidence: Evidence | None = None
+        self.scope = Scope(owner.scheduler)
+        checker = owner.checker.of(self.scope.task("main"))
+        self.problem = Problem(quiet(owner.options, engines), source, checker, owner.above)
+        if circuit:
+            self.problem.circuit, self.problem.header = circuit, circuit.header
+        self.board = Board(Clock(owner.deadline), min(answer.steps for answer in answers))
+        self.portfolio = Portfolio(self.problem, self.scope, self.board, self)
+
+    def ask(self, seconds: float) -> bool:
+        """Runs its engines for so many seconds at most, and returns whether they ended before."""
+        self.board.clock.deadline = min(self.owner.deadline, time.monotonic() + seconds)
+        self.portfolio.run(engines_of(self.problem))
+        is_over = not self.portfolio.left
+        self.end_all()
+        return is_over
+
+    def end_all(self) -> None:
+        """Ends what it runs."""
+        self.board.clock.deadline = 0
+        self.scope.stop()
+        self.board.wake()
 
     def take(self, engine: str, answer: Answer) -> int | None:
         if isinstance(answer, StepShown):
@@ -47,7 +71,9 @@ class Recorder:
             if isinstance(answer, Induction):
                 self.keep(answer.window)
             self.keep(answer.claim)
-        self.owner.decide(self, engine, trace)
+        seconds = self.owner.decide(self.answers, engine, trace)
+        if self.evidence:
+            self.evidence.note(engine, seconds)
         return UNSAFE if trace else SAFE
 
     def take_step(self, answer: StepShown) -> None:
@@ -66,55 +92,21 @@ class Recorder:
 
     def keep(self, claim: Claim) -> None:
         """Keeps what shows a claim, in a folder that is made once there is something to keep."""
-        folder = self.owner.folder
-        if folder is None:
-            return
-        if self.evidence is None:
+        folder, owner = self.owner.folder, self.owner
+        if folder and self.evidence is None:
             name = folder.new(self.problem.source.stem)
-            owner = self.owner
             self.evidence = Evidence(folder.path(name), owner.checker, owner.options.limit)
             self.problem.source.keep(self.evidence)
             for answer in self.answers:
                 answer.parts.append(name)
-        self.evidence.shows(claim)
+        if self.evidence:
+            self.evidence.shows(claim)
 
     def close(self) -> None:
         """Ends the script of what it kept."""
         if self.evidence:
             self.evidence.end()
             self.evidence = None
-
-
-class PropertyPortfolio:
-    """Engines that are asked about the property of some answers, or about all properties."""
-
-    def __init__(self, owner: SeparateProperties, source: Target,
-                 answers: Sequence[PropertyAnswer], circuit: Circuit | None = None,
-                 engines: Iterable[str] = ()) -> None:
-        self.owner = owner
-        options = quiet(owner.options, engines)
-        self.scope: Scope = Scope(owner.scheduler)
-        checker = owner.checker.of(self.scope.task("main"))
-        self.problem = Problem(options, source, checker, owner.above)
-        if circuit:
-            self.problem.circuit, self.problem.header = circuit, circuit.header
-        self.board = Board(Clock(owner.deadline), min(answer.steps for answer in answers))
-        self.recorder = Recorder(owner, self.problem, self.board, answers)
-        self.portfolio = Portfolio(self.problem, self.scope, self.board, self.recorder)
-
-    def ask(self, seconds: float) -> bool:
-        """Runs its engines for so many seconds at most, and returns whether they ended before."""
-        self.board.clock.deadline = min(self.owner.deadline, time.monotonic() + seconds)
-        self.portfolio.run(engines_of(self.problem))
-        is_over = not self.portfolio.left
-        self.end_all()
-        return is_over
-
-    def end_all(self) -> None:
-        """Ends what it runs."""
-        self.board.clock.deadline = 0
-        self.scope.stop()
-        self.board.wake()
 
 
 def quiet(options: Options, engines: Iterable[str]) -> Options:
@@ -165,18 +157,19 @@ class SeparateProperties:
             else:
                 report(error, self.options.verbose)
 
-    def decide(self, recorder: Recorder, engine: str, trace: Witness | None) -> None:
-        """Takes that none of a question's properties is reached, or a run to one."""
+    def decide(self, answers: Sequence[PropertyAnswer], engine: str,
+               trace: Witness | None) -> float:
+        """Takes that none of some properties is reached, or a run to one.
+
+        Returns after how many seconds that is."""
         with self.lock:
             seconds = time.monotonic() - self.begun
-            for answer in recorder.answers:
-                is_one = len(recorder.answers) == 1
-                if trace is None or is_one or trace.bad == answer.number:
+            for answer in answers:
+                if trace is None or len(answers) == 1 or trace.bad == answer.number:
                     answer.take(trace, engine, seconds)
                 if answer.is_answered and answer.number in self.asked:
                     self.asked[answer.number].end_all()
-        if recorder.evidence:
-            recorder.evidence.note(engine, seconds)
+        return seconds
 
     def portfolio(self, number: int, engines: Iterable[str] = ()) -> PropertyPortfolio:
         """Returns a portfolio about one property."""
@@ -201,7 +194,7 @@ class SeparateProperties:
         finally:
             with self.lock:
                 del self.asked[number]
-            portfolio.recorder.close()
+            portfolio.close()
 
     def round(self, numbers: Sequence[int], seconds: float) -> None:
         """Asks about properties, at most as many at once as programs may run."""

@@ -135,8 +135,8 @@ class SharedProperties(SeparateProperties):
         trace, checker = Witness(0, start, steps), self.checker.of(self.pdr)
         if not steps or not checker.holds(portfolio.problem.claimed(trace)):
             raise Fault("its counterexample reaches no bad state")
-        portfolio.recorder.take(name, RunFound([trace]))
-        portfolio.recorder.close()
+        portfolio.take(name, RunFound([trace]))
+        portfolio.close()
 
     def take_certificate(self, certificate: Sealed) -> None:
         """Has a certificate checked for all properties at once, if all are open.
@@ -156,13 +156,13 @@ class SharedProperties(SeparateProperties):
         except Fault:
             return False
         portfolio.portfolio.take(0)
-        portfolio.recorder.close()
+        portfolio.close()
         return True
 
     def together(self) -> None:
         """Asks the others about the whole file, as long as no property is reached."""
         self.whole.ask(WHOLE)
-        self.whole.recorder.close()
+        self.whole.close()
         if not self.open():
             self.first.set()
 

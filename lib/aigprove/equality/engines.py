@@ -26,8 +26,7 @@ class MergingSolver(Solver):
         with Folder(self.above) as folder:
             with folder.make("clauses.cnf") as out:
                 self.checker.print_question(question, file, out)
-            server = self.task.scheduler.server
-            words = PythonModule(server, "merging", folder.path, *in_turn(self.words))
+            words = PythonModule("merging", [folder.path, *in_turn(self.words)])
             has_solution = self.ended(folder, words) == 10
             return has_solution, folder.taken("out", "answer" if has_solution else "proof")
 
@@ -68,8 +67,7 @@ class CorrespondingRegisters:
         with Folder(self.job.above) as folder:
             with folder.make("file.aag") as out:
                 out.write(self.job.problem.text.data())
-            server = task.scheduler.server
-            words = PythonModule(server, self.guesses, folder.path, json.dumps(asked))
+            words = PythonModule(self.guesses, [folder.path, json.dumps(asked)])
             group = folder.start(task, words)
             self.job.board.has_begun.set()
             if status := task.finish(group):

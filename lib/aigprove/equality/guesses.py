@@ -310,7 +310,7 @@ class Guesses:
             return None
 
 
-def run(make: type[Guesses], folder: str, asked: str) -> None:
+def run(make: type[Guesses], folder: str, asked: str) -> int:
     """Prints the certificate for the file `file.aag` of a folder, if there is one, of what is made
     of its circuit and of what is asked: which latches start like others, how many are of each file,
     and which solver asks."""
@@ -322,14 +322,10 @@ def run(make: type[Guesses], folder: str, asked: str) -> None:
     alike = {int(place): partner for place, partner in given["alike"].items()}
     task = Scope(Scheduler(1)).task("guesses")
     solver = IncrementalQueries(given["solver"], given["is_cadical"], task, folder)
-    try:
-        made = make(circuit, alike, solver, given).certificate()
-    except Fault as why:
-        sys.exit(str(why))
-    if made is not None:
-        sys.stdout.buffer.write(made)
+    sys.stdout.buffer.write(make(circuit, alike, solver, given).certificate() or b"")
+    return 0
 
 
-def main(folder: str, asked: str) -> None:
+def main(folder: str, asked: str) -> int:
     """Prints the certificate of a guess."""
-    run(Guesses, folder, asked)
+    return run(Guesses, folder, asked)

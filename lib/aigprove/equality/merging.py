@@ -189,9 +189,9 @@ class Merging:
                          *itertools.starmap(text_of_gate, shorter)])
 
 
-def main(folder: str, *words: str) -> None:
+def main(folder: str, *words: str) -> int:
     """Asks cadical, which these words call, about the clauses in a folder, prints its solution or
-    the whole proof, and ends as it ends."""
+    the whole proof, and returns its status, or ends as it ends."""
     # It soon ends, and what it makes isn't looked through for what could go.
     gc.disable()
     clauses, asked, proof, answer = (os.path.join(folder, name)
@@ -209,11 +209,10 @@ def main(folder: str, *words: str) -> None:
     if solver:
         with open(proof if status == 20 else answer, "rb") as file:
             sys.stdout.buffer.write(file.read())
-    sys.stdout.flush()
     # Where it was ended by a signal, this is, too.
     if status < 0:
         os.kill(os.getpid(), -status)
-    sys.exit(status)
+    return status
 
 
 def started(words: list[str], out: str) -> int:

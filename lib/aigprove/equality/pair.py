@@ -182,13 +182,8 @@ class Pair(Target):
         line = f"equal at step {question.k}{self.said}"
         return self.compares(line, [str(question.k), question.name], {question.name: proof})
 
-    def proved(self, question: Question, base: Sealed, window: Question, step: Sealed) -> Claim:
-        words = ["to", str(question.k), question.name, window.name, *window.form]
-        return self.compares(self.safe, words, {question.name: base, window.name: step})
-
-    def certified(self, certificate: Sealed, proofs: Mapping[str, Sealed], *form: str) -> Claim:
-        files = {"certificate": certificate, **proofs}
-        return self.compares(self.safe, ["by", *files, *form], files)
+    def unreached(self, command: str, words: Sequence[str], files: Mapping[str, Sealed]) -> Claim:
+        return self.compares(self.safe, ["by"] * (command == "certified") + [*words], files)
 
     def started(self) -> dict[int, int]:
         """Returns the latch of the miter, by its place, that each one starts like which does so."""

@@ -114,6 +114,6 @@ class FoundSignals(Guesses):
             return outputs(folder.taken("united.aig", "circuit").data())
 
 
-def main(folder: str, asked: str) -> None:
+def main(folder: str, asked: str) -> int:
     """Prints the certificate of what ABC finds to be equal."""
-    guesses.run(FoundSignals, folder, asked)
+    return guesses.run(FoundSignals, folder, asked)

@@ -1,25 +1,37 @@
-"""The words that the command line may have, and what they stand for.
+"""The command line: the words that it may have, what they stand for, and the options that they come
+to.
 
 A row of `words.txt` has the flags of an option, what stands behind it, and its help."""
 import argparse
+import math
 import os
 import re
 import shlex
+import shutil
+import subprocess
 import sys
-from collections.abc import Callable
+import time
+from collections.abc import Callable, Iterable, Sequence
 from typing import IO, Any, NoReturn, TypeVar
 
 from aigprove import VERSION
+from aigprove.circuits.aiger import Fault
 from aigprove.data import text
-from aigprove.engines.rows import ROWS
-from aigprove.options.options import CONSTRAINTS, STARTS, Reset
+from aigprove.designs.front_ends import ASSERT, COVER, FAIR, LIVE
+from aigprove.engines.rows import FILES, PAIRS, ROWS, names_of
+from aigprove.options.options import (CONSTRAINTS, HINTED, STARTS, DesignOptions, Options, Programs,
+                                      Reset, SolverOptions)
 from aigprove.output.messages import escaped, tell
+from aigprove.processes.files import sealed
 
 Number = TypeVar("Number", int, float)
+TOP = os.path.realpath(os.path.join(os.path.dirname(os.path.realpath(__file__)), "../../.."))
 PROGRAMS = ["aigtool", "aigedit", "aigcheck"]
 # Stands in the place of --, and is nothing that a command line can have.
 END = "--\0"
 IDENTIFIER = "[A-Za-z_][A-Za-z0-9_$]*"
+# How many lists of files may be in one another, and what may stand there beside files.
+MOST_LISTS, LISTED = 16, ("-D", "-I", "-f")
 
 
 class Parser(argparse.ArgumentParser):
@@ -35,6 +47,13 @@ class Parser(argparse.ArgumentParser):
             file.write(message)
         else:
             tell(message, end="")
+
+
+def fitting(word: str, pattern: str, why: str) -> re.Match[str]:
+    """Returns how a word fits a pattern; where it doesn't it is refused."""
+    if found := re.fullmatch(pattern, word):
+        return found
+    raise argparse.ArgumentTypeError(f"{word} is no {why}")
 
 
 def count(pattern: str, what: str, kind: Callable[[str], Number],
@@ -63,10 +82,8 @@ def nonempty(word: str) -> str:
 
 def reset(word: str) -> Reset:
     """Returns a reset that is spelled SIGNAL, SIGNAL=V, or either with :N."""
-    found = re.fullmatch(f"({IDENTIFIER})(?:=([01]))?(?::([1-9][0-9]{{0,3}}))?", word)
-    if not found:
-        raise argparse.ArgumentTypeError(
-            f"{word} is no signal with a value 0 or 1 and a number of steps, as rst_n=0:2")
+    found = fitting(word, f"({IDENTIFIER})(?:=([01]))?(?::([1-9][0-9]{{0,3}}))?",
+                    "signal with a value 0 or 1 and a number of steps, as rst_n=0:2")
     return Reset(found[1], int(found[2] or 1), int(found[3] or 1))
 
 
@@ -81,18 +98,14 @@ def macro(word: str) -> tuple[str, str]:
 
 def module(word: str) -> str:
     """Returns the name of a module."""
-    if not re.fullmatch(IDENTIFIER, word):
-        raise argparse.ArgumentTypeError(f"{word} is no name of a module")
-    return word
+    return fitting(word, IDENTIFIER, "name of a module")[0]
 
 
 def parameter(word: str) -> tuple[str, str]:
     """Returns the name and the value of a parameter."""
     value = "-?[0-9]+|[0-9]+'s?(?:b[01_]+|o[0-7_]+|d[0-9_]+|h[0-9A-Fa-f_]+)"
-    found = re.fullmatch(f"({IDENTIFIER})=({value})", word)
-    if not found:
-        raise argparse.ArgumentTypeError(
-            f"{word} is no NAME=NUMBER, as WIDTH=8 or MODE=2'b10 (-D gives a text)")
+    found = fitting(word, f"({IDENTIFIER})=({value})",
+                    "NAME=NUMBER, as WIDTH=8 or MODE=2'b10 (-D gives a text)")
     return found[1], found[2]
 
 
@@ -141,3 +154,171 @@ def make_parser() -> Parser:
         group.add_argument(*flags, help=told, **named, **made.get(name, other))
     it.add_argument(END, action="store_true", dest="end", help=argparse.SUPPRESS)
     return it
+
+
+def listed(line: Sequence[str], depth: int = 0) -> list[str]:
+    """Returns a command line with the words of each list in the place of -f and its name."""
+    found: list[str] = []
+    words = iter(line)
+    for word in words:
+        if word == "--":
+            return [*found, word, *words]
+        path = (word[2:] or next(words, "")) if word.startswith("-f") else ""
+        found += of_list(path, depth) if path else [word]
+    return found
+
+
+def of_list(path: str, depth: int) -> list[str]:
+    """Returns the words of a list of files, which may have others in it."""
+    if depth > MOST_LISTS:
+        raise Fault(f"{path} is in itself")
+    said = sealed(path).data().decode("utf-8", "surrogateescape")
+    words: list[str] = []
+    given = iter(shlex.split(re.sub(r"(?m)(^|\s)//.*", "", said), comments=True))
+    for word in given:
+        # As other tools spell them.
+        kind, *values = word.split("+")[1:] if word.startswith("+") else [""]
+        flag = {"incdir": "-I", "define": "-D"}.get(kind)
+        if flag:
+            words += [flag + value for value in values if value]
+        else:
+            words.append(word + next(given, "") if word in LISTED else word)
+        if word.startswith("-") and not word.startswith(LISTED):
+            raise Fault(f"{path}: {word} is no file, -D, -I or -f")
+    return listed(words, depth + 1)
+
+
+def program(places: Iterable[str], missing: str) -> str:
+    """Returns the path of the first of some programs that is there."""
+    for place in places:
+        if path := shutil.which(place):
+            return os.path.abspath(path)
+    raise Fault(missing)
+
+
+def trusted(name: str, given: str | None) -> str:
+    """Returns the path of one of our programs.
+
+    That is the one that is given, beside this script, built here, or in PATH."""
+    built = [os.path.join(TOP, "bin", name), os.path.join(TOP, "crates", name, "out", name)]
+    missing = f"{given or name} is not there; " \
+        f"tests/run builds it, and so does `rt run` in crates/{name}"
+    return program([given] if given else [*built, name], missing)
+
+
+def found(name: str) -> str:
+    """Returns the path of another program."""
+    return program([name], f"{name} is not there")
+
+
+def cadical() -> list[str]:
+    """Returns the words that call cadical for a proof in text, with hints if it knows them.
+
+    There are none if it isn't installed."""
+    try:
+        options = subprocess.run(["cadical", "--help"], stdin=subprocess.DEVNULL,
+                                 capture_output=True).stdout
+    except FileNotFoundError:
+        return []
+    return ["cadical", "-q", "--no-binary", *[HINTED] * (b"--lrat" in options)]
+
+
+def marked(line: Sequence[str]) -> list[str]:
+    """Returns a command line whose words behind -- are no options.
+
+    Those that begin with a dash become paths from here."""
+    end = line.index("--") if "--" in line else len(line)
+    behind = [f"./{word}" if word.startswith("-") else word for word in line[end + 1:]]
+    return [*line[:end], *[END] * (end < len(line)), *behind]
+
+
+def parse(line: Sequence[str]) -> Options:
+    """Returns the options of a command line, with paths that hold in any folder."""
+    parser = make_parser()
+    words = parser.parse_intermixed_args(marked(listed(line)))
+    take_top(parser, words)
+    words.each = words.each or words.tasks or bool(words.gather)
+    check_each(parser, words)
+    check_together(parser, words)
+    seconds = math.inf if words.timeout is None else words.timeout
+    deadline = time.monotonic() + seconds - age()
+    given = words.certificate or words.run
+    kinds = [] if given else [*[PAIRS] * bool(words.equal), FILES]
+    engines = words.engine or [name for kind in kinds for name in names_of(kind)]
+    certificate, run = (sealed(path, words.limit) if path else None
+                        for path in [words.certificate, words.run])
+    made: dict[str, Any] = {
+        "files": tuple(words.files), "design": design_options(words, deadline),
+        "solver": solver_options(words.solver), "abc": words.abc and found(words.abc),
+        "programs": Programs(*(trusted(name, getattr(words, name)) for name in PROGRAMS)),
+        "engines": tuple(engines), "are_engines_named": bool(words.engine),
+        "certificate": certificate, "run": run, "deadline": deadline}
+    given = {name: it for name, it in vars(words).items() if name in Options._fields}
+    return Options(**{**given, **made})
+
+
+def age() -> float:
+    """Returns for how many seconds this process has run, which may have begun slowly."""
+    with open("/proc/self/stat", encoding="utf-8", errors="replace") as file:
+        begun = int(file.read().rpartition(")")[2].split()[19])
+    return time.clock_gettime(time.CLOCK_BOOTTIME) - begun / os.sysconf("SC_CLK_TCK")
+
+
+def take_top(parser: Parser, words: argparse.Namespace) -> None:
+    """Takes a last word that may be a name as the top module's."""
+    names = [i for i, word in enumerate(words.files)
+             if i and re.fullmatch(IDENTIFIER, word)]
+    if names and names[0] < len(words.files) - 1 or names and words.top:
+        behind = words.files[names[0] + 1 - bool(words.top):]
+        parser.error(f"unrecognized arguments: {' '.join(behind)}")
+    words.top = words.files.pop() if names else words.top
+
+
+def design_options(words: argparse.Namespace, deadline: float) -> DesignOptions:
+    """Returns how a design is read; what is asked of it first, and what by itself."""
+    is_one = words.equal or words.certificate or words.run or words.aiger \
+        or words.property is not None
+    later = set() if is_one else {LIVE, FAIR, *[COVER] * words.each}
+    return DesignOptions(
+        top=words.top, define=tuple(words.define), include=tuple(words.include),
+        parameter=tuple(words.parameter), black_box=tuple(words.black_box),
+        multiclock=words.multiclock, reset=words.reset, later=frozenset(later),
+        kind=ASSERT if words.justice is None else LIVE, is_compared=bool(words.equal),
+        is_quiet=words.quiet, deadline=deadline)
+
+
+def solver_options(words: list[str] | None) -> SolverOptions:
+    """Returns how the SAT solver is called that these words name, or else cadical."""
+    called = words or cadical()
+    return SolverOptions((*map(found, called[:1]), *called[1:]), is_cadical=not words)
+
+
+def check_together(parser: Parser, words: argparse.Namespace) -> None:
+    """Refuses questions that have no meaning beside one another."""
+    others = words.equal or words.certificate or words.run or words.each
+    if words.justice is not None and (others or words.property is not None):
+        parser.error("--justice goes with none of --equal, --certificate, --run, --each and "
+                     "--property")
+    if words.write_certificate and (words.certificate or words.run):
+        parser.error("--write-certificate is about an answer of our own, and not with "
+                     "--certificate and --run")
+
+
+def check_each(parser: Parser, words: argparse.Namespace) -> None:
+    """Refuses words that are for a table, or not for one, or for two files."""
+    alone = [f"--{name}" for name in ["json", "junit", "shortest"] if getattr(words, name)]
+    if alone and not words.each:
+        parser.error(f"{alone[0]} is for the table of --each")
+    single = ["equal", "certificate", "write_certificate", "run", "property", "aiger"]
+    for name in single if words.each else ["equal"] if words.property is not None else []:
+        if getattr(words, name) is not None and getattr(words, name) is not False:
+            option = "--each" if words.each else "--property"
+            parser.error(f"--{name.replace('_', '-')} is about one question, and not with "
+                         + option)
+    for name in ["starts", "constraints"]:
+        if getattr(words, name) and not words.equal:
+            parser.error(f"--{name} is for --equal")
+    if words.tasks and not words.keep:
+        parser.error("--tasks keeps what is asked about in a folder: --keep FOLDER says which")
+    if words.gather and (words.keep or words.tasks):
+        parser.error("--gather asks nothing: --keep FOLDER goes on with what FOLDER has")

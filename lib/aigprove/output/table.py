@@ -3,22 +3,23 @@ it."""
 import functools
 import os
 import resource
+import shlex
 import time
-from collections.abc import Callable, Iterable, Sequence
+from collections.abc import Callable, Iterable, Iterator, Sequence
 
 from aigprove.circuits.aiger import Circuit, Fault
 from aigprove.circuits.witness import Witness
 from aigprove.designs.front_ends import COVER, LIVE
 from aigprove.engines.job import FAILED, OPEN, SAFE, UNSAFE
 from aigprove.engines.portfolio import TICK
+from aigprove.engines.rows import tasks
 from aigprove.engines.separate import SeparateProperties
 from aigprove.engines.shared import SharedProperties
 from aigprove.options.options import Options
-from aigprove.output import commands
 from aigprove.output.evidence import ABOVE, Evidence, EvidenceFolder
 from aigprove.output.gather import Gathered
 from aigprove.output.messages import say, show_progress
-from aigprove.output.report import Report
+from aigprove.output.report import PropertyAnswer, Report
 from aigprove.output.signals import Signals
 from aigprove.processes.files import write
 from aigprove.processes.groups import BackgroundCall
@@ -32,6 +33,8 @@ from aigprove.questions.target import Target
 
 # What is written of a run of a source, whose circuit a function reads.
 Written = Callable[[Target, Witness, Callable[[], Circuit]], Iterable[bytes]]
+# Seconds that a command of `--tasks` has, if none are given.
+TASK_SECONDS = 60
 STATUS = {"fails": UNSAFE, "holds": SAFE, "undecided": OPEN}
 
 
@@ -95,7 +98,7 @@ class Table:
     def run(self) -> int:
         """Does what is asked, and returns the exit status."""
         if self.options.tasks:
-            for line in commands.lines(self.options, self.sources, self.answers):
+            for line in commands(self.options, self.sources, self.answers):
                 print(line)
             return OPEN
         # What was answered by the time when something ends that is printed.
@@ -201,6 +204,28 @@ class Table:
                 if answer.trace:
                     path = os.path.join(folder, f"{answer.letter}{answer.number}.{suffix}")
                     write(path, call(part.sources[answer.number], answer.trace, circuit))
+
+
+def commands(options: Options, sources: Iterable[BadStates | Justices],
+             answers: Iterable[PropertyAnswer]) -> Iterator[str]:
+    """Yields a line for each property and for engines that go together.
+
+    Such a command reads the file in the folder of --keep, and keeps what it shows in a new folder
+    in it."""
+    folder = options.keep or ""
+    numbers = {"bound": options.bound, "limit": options.limit}
+    given = [word for name, number in numbers.items() if number is not None
+             for word in (f"--{name}", str(number))]
+    seconds = TASK_SECONDS if options.timeout is None else options.timeout
+    for source, answer in ((source, answer) for source in sources for answer in answers):
+        for engines in tasks() if answer.letter == source.letter else []:
+            names = [name for name in engines if name in options.engines]
+            if names:
+                number, file = str(answer.number), os.path.join(folder, source.name)
+                place = os.path.join(folder, f"{source.stems[1]}-{number}-{names[0]}")
+                asked = [f"--{source.option}", number, "--engine", ",".join(names),
+                         "--timeout", f"{seconds:g}", "--keep", place, file]
+                yield shlex.join(["aigprove", "-q", *given, *asked])
 
 
 def witness_of(source: Target, trace: Witness, _: Callable[[], Circuit]) -> Iterable[bytes]:

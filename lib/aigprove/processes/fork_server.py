@@ -11,8 +11,10 @@ import signal
 import sys
 import tempfile
 import threading
-from collections.abc import Callable, Iterable, Sequence
+from collections.abc import Sequence
 from types import ModuleType
+
+from aigprove.circuits.aiger import Fault
 
 
 class Forked:
@@ -43,16 +45,14 @@ class ForkServer:
         os.close(telling)
         self.answers = open(answering, "rb")
 
-    def begin(self, name: str, words: Sequence[str], folder: str) -> Forked | None:
-        """Runs a module in a folder, whose files `out` and `err` are its streams.
-
-        Returns None if that can't be."""
+    def begin(self, name: str, words: Sequence[str], folder: str) -> Forked:
+        """Runs a module in a folder, whose files `out` and `err` are its streams."""
         try:
             with self.lock:
                 os.write(self.asking, json.dumps([name, words, folder]).encode() + b"\n")
                 return Forked(int(self.answers.readline()))
         except (OSError, ValueError):
-            return None
+            raise Fault("the process that forks others ended") from None
 
 
 def serve(names: Sequence[str], listening: int, telling: int) -> None:
@@ -88,7 +88,8 @@ def forked(module: ModuleType, words: Sequence[str], folder: str) -> int:
 
 
 def run(module: ModuleType, words: Sequence[str], folder: str) -> None:
-    """Runs a module in a folder, and ends this process."""
+    """Runs a module in a folder, and ends this process with the status that its main function
+    returns."""
     status = 1
     try:
         close_others(set())
@@ -96,25 +97,14 @@ def run(module: ModuleType, words: Sequence[str], folder: str) -> None:
         os.environ["TMPDIR"] = tempfile.tempdir = folder
         set_streams({0: (os.devnull, os.O_RDONLY),
                      1: ("out", os.O_WRONLY), 2: ("err", os.O_WRONLY)})
-        status = status_of(module.main, words)
+        status = module.main(*words)
         sys.stdout.flush()
-    finally:
-        os._exit(status)
-
-
-def status_of(main: Callable[..., None], words: Iterable[str]) -> int:
-    """Returns the status with which Python ends when it runs this, and prints what is wrong."""
-    try:
-        main(*words)
-    except SystemExit as end:
-        if isinstance(end.code, str):
-            print(end.code, file=sys.stderr)
-            return 1
-        return end.code or 0
+    except Fault as why:
+        print(why, file=sys.stderr)
     except BaseException as error:
         sys.excepthook(type(error), error, error.__traceback__)
-        return 1
-    return 0
+    finally:
+        os._exit(status)
 
 
 def close_others(kept: set[int]) -> None:

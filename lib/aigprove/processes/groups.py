@@ -8,17 +8,15 @@ import resource
 import shutil
 import signal
 import subprocess
-import sys
 import threading
 import time
 from collections.abc import Callable, Collection, Iterator, Sequence
-from typing import TYPE_CHECKING, Any, Generic, Protocol, TypeVar
+from typing import TYPE_CHECKING, Any, Generic, NamedTuple, Protocol, TypeVar
 
 from aigprove.processes.files import Sealed, Word
 
 if TYPE_CHECKING:
     from aigprove.processes.files import Folder
-    from aigprove.processes.fork_server import ForkServer
     from aigprove.processes.scheduler import Task
 
 T = TypeVar("T")
@@ -27,10 +25,6 @@ SUBREAPER = 36
 SOON = 0.2
 # How many bytes a file has whose check is told of while it is read.
 LONG = 1 << 22
-# What Python runs, with the module of this package and the folder that the package is in.
-MODULE = "import sys; sys.path.insert(0, sys.argv[1]); " \
-    "from aigprove.equality import {0}; {0}.main(*sys.argv[2:])"
-PACKAGE = os.path.dirname(os.path.dirname(os.path.dirname(os.path.realpath(__file__))))
 
 
 class BackgroundCall(threading.Thread, Generic[T]):
@@ -61,14 +55,13 @@ class BackgroundCall(threading.Thread, Generic[T]):
         self.join(SOON)
 
 
-def adopt() -> bool:
-    """Makes this process the parent of all that its programs leave behind, so that `bury` finds it.
-
-    Returns whether it could."""
+def adopt() -> None:
+    """Makes this process the parent of all that its programs leave behind, so that `bury` finds
+    it."""
     # Only one process of ours does that.
     import ctypes
 
-    return bool(ctypes.CDLL(None).prctl(SUBREAPER, 1, 0, 0, 0) == 0)
+    ctypes.CDLL(None).prctl(SUBREAPER, 1, 0, 0, 0)
 
 
 def children() -> Iterator[int]:
@@ -114,20 +107,13 @@ class Process(Protocol):
         """Returns its exit status, once it ends."""
 
 
-class PythonModule:
-    """The words that run a module of this package as a program of its own.
+class PythonModule(NamedTuple):
+    """A module of this package, which runs as a program of its own with these words.
 
     Such a program doesn't wait for what other threads compute."""
 
-    def __init__(self, server: ForkServer | None, name: str, *words: str) -> None:
-        self.server, self.name, self.words = server, name, words
-
-    def __iter__(self) -> Iterator[str]:
-        return iter([sys.executable, "-ISc", MODULE.format(self.name), PACKAGE, *self.words])
-
-    def begin(self, folder: str) -> Process | None:
-        """Runs it in a process that the server forks; None if there is no server."""
-        return self.server.begin(self.name, self.words, folder) if self.server else None
+    name: str
+    words: Sequence[str]
 
 
 Words = Sequence[Word] | PythonModule
@@ -167,8 +153,9 @@ class Group:
 
     def begun(self, words: Words, path: str | None, streams: dict[str, Any]) -> Process:
         """Starts the program, in the folder at this path if there is one."""
-        if path and isinstance(words, PythonModule) and (forked := words.begin(path)):
-            return forked
+        if isinstance(words, PythonModule):
+            assert path and self.task.scheduler.server
+            return self.task.scheduler.server.begin(words.name, words.words, path)
         environment = {**os.environ, "TMPDIR": path} if path else None
         options: dict[str, Any] = {"stdin": subprocess.DEVNULL, **streams}
         return subprocess.Popen(list(map(str, words)), cwd=path, env=environment,

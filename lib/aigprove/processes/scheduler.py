@@ -37,7 +37,8 @@ class Task:
     """The work of one engine, or of the main thread, on a question: its programs share turns."""
 
     def __init__(self, scope: Scope, engine: str, share: int) -> None:
-        self.scope, self.engine, self.scheduler = scope, engine, scope.scheduler
+        self.scope, self.engine = scope, engine
+        self.scheduler: Scheduler = scope.scheduler
         # How many times as long as others it may run.
         self.share = share
         # For how long its programs ran, and for how long they had when it last got further.

@@ -111,34 +111,23 @@ class Assumptions:
         return f"the assumptions can be met up to step {self.met}"
 
 
-def with_property(text: bytes) -> bytes:
-    """Returns a text form with a justice property of no literals behind the others."""
-    head, *lines = text.split(b"\n")
-    counts = [*map(int, head.split()[1:]), *[0] * 9][:9]
-    inputs, latches, outputs, _, bads, constraints, justice = counts[1:8]
-    counts[7] += 1
-    lines.insert(inputs + latches + outputs + bads + constraints + justice, b"0")
-    return b"\n".join([b"aag " + b" ".join(b"%d" % count for count in counts), *lines])
-
-
-def endless_of(source: Target, checker: Checker) -> Endless:
-    """Returns what is asked of a justice property."""
-    assert isinstance(source, Justice)
-    return Endless(source, checker)
-
-
 class Endless:
     """The steps of a loop that meets the fairness of a file, or that there is none.
 
     The claim shows it."""
 
-    def __init__(self, justice: Justice, checker: Checker) -> None:
-        header = justice.given.header()
+    def __init__(self, justice: Target, checker: Checker) -> None:
+        assert isinstance(justice, Justice)
+        circuit = checker.circuit(justice.given.file, "FILE")
+        header = circuit.header
         self.checker, self.number, self.latches = checker, header.justice, header.latches
         self.loop: tuple[int, int] | None = None
         self.is_unmet = False
         self.claim: Claim | None = None
-        self.file = Sealed(with_property(checker.text(justice.given.file).data()))
+        # One more justice property, of no literals.
+        circuit.justice.append([])
+        header.count(circuit, header.counts[0])
+        self.file = Sealed(circuit.text())
         self.made = checker.made("live", self.file, self.number)
 
     def look(self, solver: Solver, _: int, deadline: float) -> None:

@@ -67,14 +67,9 @@ class BadStates(Target):
         Those of a design have the names and the places of its assertions."""
         from aigprove.output.report import PropertyAnswer
 
-        circuit, design = self.circuit(), self.given.design
-        if design and design.assertions:
-            named = design.named()
-        else:
-            letter = "o" if self.is_old else "b"
-            count = len(circuit.outputs if self.is_old else circuit.bads)
-            names = [circuit.names.get((letter, i), b"") for i in range(count)]
-            named = [(decoded(name), "") for name in names]
+        header = self.given.header()
+        of = ("o", header.outputs) if self.is_old else ("b", header.bads)
+        named = self.given.properties(*of)
         return [PropertyAnswer(self.letter, i, *it) for i, it in enumerate(named)]
 
     def about(self) -> Iterator[str]:

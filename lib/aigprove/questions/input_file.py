@@ -92,6 +92,14 @@ class InputFile:
         """Returns something with the names that the circuit has, in less time if that can be."""
         return self.circuit() if self.design else Symbols(Lines(self.file.data(), "FILE"))
 
+    def properties(self, letter: str, count: int) -> list[tuple[str, str]]:
+        """Returns the names and the places of its properties: of the assertions of a design, or of
+        so many signals of a kind."""
+        if self.design and self.design.assertions:
+            return self.design.named()
+        names = self.circuit().names
+        return [(decoded(names.get((letter, i), b"")), "") for i in range(count)]
+
     def named(self) -> tuple[Circuit, dict[int, list[str]]]:
         """Returns the circuit of a design with the names of its assertions.
 

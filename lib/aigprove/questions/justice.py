@@ -5,7 +5,7 @@ liveness assertion of a design is a justice property of a file of its own: a fai
 fails."""
 from collections.abc import Iterable, Iterator, Mapping, Sequence
 
-from aigprove.circuits.aiger import Circuit, Fault, Header, decoded
+from aigprove.circuits.aiger import Circuit, Fault, Header
 from aigprove.circuits.witness import Witness
 from aigprove.designs.front_ends import FAIR, LIVE
 from aigprove.options.options import Options
@@ -15,7 +15,7 @@ from aigprove.output.report import PropertyAnswer
 from aigprove.output.signals import Signals
 from aigprove.processes.files import Sealed
 from aigprove.questions.bad_states import of_kind
-from aigprove.questions.checker import Checker, Claim, Question
+from aigprove.questions.checker import Checker, Claim
 from aigprove.questions.input_file import InputFile, counted
 from aigprove.questions.target import Target, changes_of
 
@@ -45,12 +45,8 @@ class Justices(Target):
 
     def answers(self) -> list[PropertyAnswer]:
         """Returns the properties, which have no answers yet, with their names."""
-        if self.given.design:
-            named = self.given.design.named()
-            return [PropertyAnswer(self.letter, i, *it) for i, it in enumerate(named)]
-        names, numbers = self.circuit().names, range(self.given.header().justice)
-        return [PropertyAnswer(self.letter, i, decoded(names.get((self.letter, i), b"")))
-                for i in numbers]
+        named = self.given.properties(self.letter, self.given.header().justice)
+        return [PropertyAnswer(self.letter, i, *it) for i, it in enumerate(named)]
 
     def each(self) -> Iterator[Target]:
         """Yields each of them, none of which is asked about alone."""
@@ -97,24 +93,17 @@ class Justice(Target):
     def circuit(self) -> Circuit:
         return self.given.circuit()
 
-    def of_given(self, command: str, words: Iterable[str], files: Mapping[str, Sealed],
-                 *rounds: str) -> Claim:
+    def unreached(self, command: str, words: Sequence[str], files: Mapping[str, Sealed],
+                  rounds: Sequence[str] = ()) -> Claim:
         """Returns that the file that was given has no fair run, as aigcheck says of it."""
         words = ["--justice", str(self.number), *rounds, command, self.file, *words]
         return Claim(self.safe, words, {self.file: self.given.file, **files})
-
-    def proved(self, question: Question, base: Sealed, window: Question, step: Sealed) -> Claim:
-        words = ["to", str(question.k), question.name, window.name, *window.form]
-        return self.of_given("safe", words, {question.name: base, window.name: step})
-
-    def certified(self, certificate: Sealed, proofs: Mapping[str, Sealed], *form: str) -> Claim:
-        files = {"certificate": certificate, **proofs}
-        return self.of_given("certified", files, files, *form)
 
     def is_fair(self) -> bool:
         return self.given.header().fairness > 0
 
     def rounds(self, checker: Checker, count: int) -> Sealed:
+        """Returns the file in which so many rounds end."""
         return checker.made("rounds", self.given.file, self.number, count)
 
     def warnings(self) -> Iterator[str]:

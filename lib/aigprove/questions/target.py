@@ -10,7 +10,7 @@ from aigprove.circuits.aiger import Circuit, Header
 from aigprove.circuits.simulation import SIMULATED
 from aigprove.circuits.witness import Witness
 from aigprove.processes.files import Sealed
-from aigprove.questions.checker import Checker, Claim, Question
+from aigprove.questions.checker import Claim, Question
 
 if TYPE_CHECKING:
     from aigprove.output.evidence import Evidence
@@ -73,14 +73,18 @@ class Target:
     def proved(self, question: Question, base: Sealed, window: Question, step: Sealed) -> Claim:
         """Returns that none is reached at all, by proofs of the steps up to K and of a window."""
         words = ["to", str(question.k), question.name, window.name, *window.form]
-        return self.claim(SAFE, "safe", words, {question.name: base, window.name: step})
+        return self.unreached("safe", words, {question.name: base, window.name: step})
 
     def certified(self, certificate: Sealed, proofs: Mapping[str, Sealed], *form: str) -> Claim:
         """Returns that none is reached at all, by a certificate and proofs about both.
 
         The proofs have names; their clauses may have a form."""
         files = {"certificate": certificate, **proofs}
-        return self.claim(SAFE, "certified", [*files, *form], files)
+        return self.unreached("certified", [*files, *form], files)
+
+    def unreached(self, command: str, words: Sequence[str], files: Mapping[str, Sealed]) -> Claim:
+        """Returns that none is reached at all, by a command of aigcheck."""
+        return self.claim(SAFE, command, words, files)
 
     def up_to(self, k: int) -> str:
         """Returns the line of what was shown of the steps up to one."""
@@ -129,10 +133,6 @@ class Target:
     def of_file(self, trace: Witness) -> Witness:
         """Returns a witness as one of the file that was given."""
         return trace
-
-    def rounds(self, checker: Checker, count: int) -> Sealed:
-        """Returns the file in which so many rounds end, if there are such files."""
-        raise NotImplementedError
 
     def warnings(self) -> Iterator[str]:
         """Yields lines of what isn't asked about."""
