@@ -32,6 +32,10 @@ UNITS = {
     "designs/modules.py": PARTS,
     "designs/netlist.py": PARTS,
     "designs/texts.py": TEXTS,
+    "designs/names.py": [("design_units", "names")],
+    "designs/yosys.py": [("design_units", "yosys_units")],
+    "designs/reading.py": [("design_units", "reading_units")],
+    "designs/verilog.py": [("design_units", "design_units")],
     "questions/checker.py": [("checker_units", "units")],
     "output/check.py": [("checker_units", "units")],
 }
