@@ -8,8 +8,10 @@ path; what yosys says is told by these paths; and a design that isn't asked abou
 import contextlib
 import json
 import os
+import pathlib
 import re
 import sys
+import tempfile
 import time
 
 import harness
@@ -24,6 +26,7 @@ from aigprove.designs.rtlil import Statement, modules_of, parse, write
 from aigprove.designs.verilog import Assertion, Design, place_of
 from aigprove.designs.yosys import LONGEST, Yosys
 from aigprove.options.options import DesignOptions, Reset
+from aigprove.processes.scheduler import Stopped
 
 FOLDER = re.compile(r"/proc/self/fd/\d+")
 
@@ -441,10 +444,10 @@ class Started:
     """A run of yosys that the stand-in has done."""
 
     def __init__(self, status):
-        self.status, self.signals = status, []
+        self.status, self.ends = status, 0
 
-    def signal(self, number):
-        self.signals.append(number)
+    def kill(self):
+        self.ends += 1
 
 
 class Stand:
@@ -470,6 +473,9 @@ class Stand:
         return self.runs[-1]
 
     def finish(self, group):
+        """Gives the status of a run; one without any is given up."""
+        if group.status is None:
+            raise Stopped
         return group.status
 
 
@@ -492,10 +498,14 @@ def set_path(folder, names):
         os.environ["PATH"] = before
 
 
+def new_beside(folder):
+    """A new folder, which doesn't stand beside a design's files in this one."""
+    return pathlib.Path(tempfile.mkdtemp(dir=folder.parent))
+
+
 def a_yosys(folder, does, files=None, deadline=None):
     """A new Yosys for files in a folder, and its stand-in."""
-    made = folder / f"made{len(list(folder.glob('made*')))}"
-    made.mkdir()
+    made = new_beside(folder)
     task = Stand(does)
     files = files or [File(str(folder / "t.v"), b"module t; endmodule\n")]
     return Yosys(files, str(made), task, time.monotonic() + 1000 if deadline is None else deadline), task
@@ -590,31 +600,18 @@ def runs(tally, folder):
     late = f"{folder}/t.v: yosys was still at it when the time was over"
     other, task = a_yosys(folder, lambda *_: "", deadline=time.monotonic() - 1)
     tally.wants("late", (late, []), (refused(other.run, ""), task.scripts))
-    other, task = a_yosys(folder, lambda *_: slow(), deadline=time.monotonic() + 0.05)
-    tally.wants("ended", late, refused(other.run, ""))
-    other, task = a_yosys(folder, lambda *_: slow()[:1] + (0, True), deadline=time.monotonic() + 0.05)
-    tally.wants("just in time", None, refused(other.run, ""))
+    other, task = a_yosys(folder, lambda *_: ("", None, True))
+    tally.wants("given up", late, refused(other.run, ""))
     other, task = a_yosys(folder, lambda *_: "kept")
     run = other.begin("")
     tally.wants("so far", (b"kept", "kept", None), (run.data(), run.said(), run.outcome))
     run.end()
-    tally.wants("ended once", ([9], b"kept", (0, b"kept", False)), (task.runs[0].signals, run.data(), run.outcome))
-    tally.check(run.timer.daemon and run.timer.finished.is_set(), "the timer of a run that ended isn't stopped")
-    waiting, task = a_yosys(folder, lambda *_: "", deadline=time.monotonic() + 0.05)
-    waiting.begin("")
-    time.sleep(0.3)
-    tally.wants("killed", [9], task.runs[0].signals)
+    tally.wants("ended once", (1, b"kept", (0, b"kept")), (task.runs[0].ends, run.data(), run.outcome))
     for call, why in [(lambda: None, None), (lambda: broken(), "no")]:
         other, task = a_yosys(folder, lambda *_: "done")
-        tally.wants("alongside", (why, [] if why is None else [9]), (refused(beside, other, call), task.runs[0].signals))
+        tally.wants("alongside", (why, int(why is not None)), (refused(beside, other, call), task.runs[0].ends))
     other, _ = a_yosys(folder, lambda *_: ("", 1, True))
     tally.wants("a fault alongside", "yosys ended with status 1", refused(beside, other, lambda: None))
-
-
-def slow():
-    """Yosys, which is killed as the time is over."""
-    time.sleep(0.1)
-    return "", -9, True
 
 
 def broken():
@@ -705,8 +702,7 @@ class Reader:
 
     def read(self, files=None, make=ReadDesign, **options):
         """Reads the files with these options."""
-        folder = self.folder / f"made{len(list(self.folder.glob('made*')))}"
-        folder.mkdir()
+        folder = new_beside(self.folder)
         files = files or [File(str(self.folder / "t.v"), b"module top; endmodule\n")]
         return make(files, options_of(**options), str(folder), self.task)
 

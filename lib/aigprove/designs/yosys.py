@@ -9,10 +9,8 @@ import json
 import os
 import re
 import shutil
-import signal
 import subprocess
 import tempfile
-import threading
 import time
 from collections.abc import Callable, Iterator, Mapping, Sequence
 from typing import Any
@@ -24,7 +22,7 @@ from aigprove.designs.rtlil import Statement, parse
 from aigprove.designs.texts import EXPANDED
 from aigprove.output.messages import ending, plain
 from aigprove.processes.groups import Words
-from aigprove.processes.scheduler import Task
+from aigprove.processes.scheduler import Stopped, Task
 
 # A script by where the folder is, the file that it writes to once it is ready, the paths of the
 # files' copies, and those of the folders beside them; and texts by descriptors.
@@ -195,35 +193,32 @@ class Yosys:
 
 
 class Run:
-    """A run of yosys, which is ended if the time is over."""
+    """A run of yosys, which is given up once the time is over."""
 
     def __init__(self, yosys: Yosys, words: Words, **streams: Any) -> None:
         self.yosys, self.out = yosys, tempfile.TemporaryFile()
-        self.outcome: tuple[int, bytes, bool] | None = None
+        self.outcome: tuple[int, bytes] | None = None
         self.late = TranslationTimeout(
             f"{yosys.path}: yosys was still at it when the time was over")
-        left = yosys.deadline - time.monotonic()
-        if left <= 0:
+        if yosys.deadline <= time.monotonic():
             raise self.late
         self.group = yosys.task.start(words, stdout=self.out, stderr=subprocess.STDOUT, **streams)
-        self.timer = threading.Timer(min(left, threading.TIMEOUT_MAX),
-                                     self.group.signal, [signal.SIGKILL])
-        self.timer.daemon = True
-        self.timer.start()
 
     def end(self) -> None:
         """Ends it, whatever it is at."""
-        self.group.signal(signal.SIGKILL)
+        self.group.kill()
         self.wait()
 
-    def wait(self) -> tuple[int, bytes, bool]:
-        """Returns its status, once it ends, what it printed, and whether the time is over then."""
+    def wait(self) -> tuple[int, bytes]:
+        """Returns its status, once it ends, and what it printed."""
         if self.outcome is None:
-            status = self.yosys.task.finish(self.group)
-            self.timer.cancel()
+            try:
+                status = self.yosys.task.finish(self.group)
+            except Stopped:
+                raise self.late from None
             with self.out:
                 self.out.seek(0)
-                self.outcome = status, self.out.read(), time.monotonic() >= self.yosys.deadline
+                self.outcome = status, self.out.read()
         return self.outcome
 
     def data(self) -> bytes:
@@ -238,10 +233,8 @@ class Run:
 
     def printed(self) -> str:
         """Returns what it prints, once it ends, which has to be with status 0."""
-        status, _, is_over = self.wait()
+        status, _ = self.wait()
         said = self.said()
-        if status != 0 and is_over:
-            raise self.late
         if status != 0:
             why = [line for line in said.splitlines() if "ERROR: " in line]
             raise Fault(self.yosys.told(why[0]) if why else f"yosys {ending(status)}")

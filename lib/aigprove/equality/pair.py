@@ -15,6 +15,7 @@ from aigprove.output.evidence import Evidence
 from aigprove.output.signals import Signals, word
 from aigprove.processes.files import Sealed
 from aigprove.processes.groups import BackgroundCall
+from aigprove.processes.scheduler import Stopped
 from aigprove.questions.checker import MISFIT, Checker, Claim, Question
 from aigprove.questions.input_file import InputFile
 from aigprove.questions.target import Target
@@ -70,10 +71,11 @@ class Pair(Target):
         try:
             first = InputFile(options.files, options.design, above, self.checker)
             second = reading.result()
-        except BaseException:
+        except BaseException as why:
             self.checker.task.scheduler.stop()
             reading.give_up()
-            raise
+            # What was read for too long is told.
+            raise (isinstance(why, Stopped) and reading.error) or why
         second.say_left_out(design)
         return first, second
 
