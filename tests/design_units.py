@@ -1128,8 +1128,8 @@ def made_files(tally, folder):
     tally.wants("assertions", wanted, list(map(tuple, design.assertions)))
     tally.wants("about", "top: 1 assertion, 2 assumptions", design.about())
     tally.wants("named", [("top.holds", "t.v:3.5-3.30"), ("top.s.deep", "t.v:5.2-6.12"), ("", "")], design.named())
-    tally.wants("places", ["t.v:2", "", "", "t.v:1", "aigprove_X.v:3"],
-                list(map(place_of, ["t.v:1|t.v:2", "", "aigprove_held.v:1", "t.v:1|aigprove_late.v:2", "aigprove_X.v:3"])))
+    tally.wants("places", ["t.v:2", "", "", "t.v:1", "aigprove_X.v:3", "aigprove_held.vh:1"],
+                list(map(place_of, ["t.v:1|t.v:2", "", "aigprove_held.v:1", "t.v:1|aigprove_late.v:2", "aigprove_X.v:3", "aigprove_held.vh:1"])))
     tally.wants("left open", [], design.left_open)
     tally.wants("all names", {"y": ["y", "s.q"], "s.q": ["y", "s.q"]}, {name: design.aliases[name] for name in ["y", "s.q"]})
     reset = maker_of(folder, reset=Reset("rst", 0, 2))
@@ -1137,6 +1137,7 @@ def made_files(tally, folder):
                 (reset[1].about(), "add -assume rst" in reset[0].written(reset[1])[1]))
     tally.wants("its maps", BY_MAPS, [line for line in reset[0].written(reset[1])[1] if line in BY_MAPS])
     several = maker_of(folder, reset=Reset("rst", 0, 2), multiclock=True)
+    tally.wants("no reset is left", [*WRITING, "design -reset", *REPLAYING], several[0].written(several[1])[1])
     tally.wants("among the assumptions", ({"$assert": 1, "$assume": 1}, False), (several[1].counts, "add -assume rst" in several[0].written(several[1])[1]))
     for kind, chosen, counted in [
         (COVER, ["chformal -assert -live -fair -remove", "techmap -map aigprove_cover.v t:$cover"], {"$assert": 1, "$assume": 2}),
@@ -1151,6 +1152,9 @@ def made_files(tally, folder):
         writing = maker.written(maker.design())[1]
         lines = [] if further is None else [*BY_MAPS[:-1], BY_MAPS[-1] + further]
         tally.wants(cell, lines, [line for line in writing if line.startswith(("wreduce", "alumacc", "maccmap", "techmap"))])
+    known = "shr shl sshr sshl shift pmux alu fa lcu add sub neg mul lt le gt ge".split()
+    maker = Maker(folder, with_cells(**{kind: json_cell(f"${kind}", A=[4], Y=[9]) for kind in known}))
+    tally.wants("all that maps know", BY_MAPS, [line for line in maker.written(maker.design())[1] if line in BY_MAPS or "techmap" in line])
     free = {**with_cells(), "ports": {**PORTS, "x$[1:0]": {"direction": "input", "bits": [9]}, "$7": {"direction": "input", "bits": [10]},
                                       "u": {"direction": "input", "bits": [11]}}, "netnames": {**NETS, "x$[1:0]": net(9), "$7": net(10, hidden=1),
                                                                                               "u": net(11)}}
@@ -1179,6 +1183,9 @@ def sizes(tally, folder):
         tally.wants((size, is_compared), (is_ready, is_fewer, 1), ("design -reset" in given, "abc -g AND" in given, len(writing)))
         tally.wants("names", "json -o whole.json w:*" if is_compared else "write_rtlil whole.il", freeing[freeing.index("opt_clean -purge") - 1])
         tally.wants("ready", is_ready, design.is_replayed)
+        own = [line for line in WRITING if is_fewer or line != "abc -g AND"]
+        own = own if is_fewer else [*own[:own.index("opt -fast -noff -keepdc") + 1], *own[own.index("formalff -anyinit2ff -fine"):]]
+        tally.wants("written", own, writing[0][:len(own)])
     failing = Maker(folder, fails=lambda script: "design -reset" in script)
     design = failing.design()
     freeing, first, again = failing.written(design)
@@ -1218,6 +1225,9 @@ def bad_designs(tally, folder):
     maker = Maker(folder, module)
     design = maker.design(reset=Reset("clk", 1, 1))
     tally.wants("no clock", (None, False, "add -input aigprove_clock 1"), (design.clock, "delete w:clk" in maker.written(design)[1], design.spare()))
+    unclocked = [line for line in WRITING if line != "delete w:clk"]
+    unclocked.remove("opt_clean -purge")
+    tally.wants("no clock is dropped", unclocked, [line for line in maker.written(design)[1] if line in [*WRITING, "?"]][:len(unclocked)])
     tally.wants("one is spare", True, "add -input aigprove_clock 1" in maker.written(design)[1])
     spared = Maker(folder).design()
     tally.wants("none is", "", spared.spare())
@@ -1233,7 +1243,7 @@ def bad_designs(tally, folder):
 
 def replays(tally, folder):
     """What yosys is given to run a witness, and what it says."""
-    files = [File("t.v", b"one\ntwo\n  three \x1b;\nfour\n five\t\nsix" + b"y" * 300 + b"\n")]
+    files = [File("t.v", b"one\ntwo\n  three \x1b;\nf\xffour\n five\t\nsix" + b"y" * 300 + b"\n")]
     maker = Maker(folder)
     design = maker.read(files, make=Design)
     failed, dump = design.run(Witness(1, "01x", ["1x", "00"]))
@@ -1261,7 +1271,7 @@ def replays(tally, folder):
     design = Maker(folder).read(files, make=Design)
     tally.wants("assertions", [("assertion top.holds (t.v:3.5-3.30)", "three \\x1b;"), ("assertion top.s.deep (t.v:5.2-6.12)", "five " + ("six" + "y" * 300)[:195]),
                                ("assertion top ()", "")], [design.assertion(number) for number in range(3)])
-    for place, wanted in [("t.v:1.1-2.2", "one two"), ("u.v:1.1-2.2", ""), ("t.v:1.1", ""), ("t.v", ""), ("t.v:4.1-4.9", "four"), ("x|t.v:1.1-1.2", "")]:
+    for place, wanted in [("t.v:1.1-2.2", "one two"), ("u.v:1.1-2.2", ""), ("t.v:1.1", ""), ("t.v", ""), ("t.v:4.1-4.9", "f\ufffdour"), ("x|t.v:1.1-1.2", "")]:
         tally.wants(place, wanted, design.spelled(place))
 
 

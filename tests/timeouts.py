@@ -1,12 +1,15 @@
 #!/usr/bin/env python3
 """Checks that aigprove keeps its limit of time on a busy machine: timeouts.py [LOAD]
 
-LOAD (16) programs do nothing but run. Beside them files are asked about that no engine decides in time, a design that yosys reads for longer
-than there is time, and two such that are compared; with a limit of S seconds aigprove has to end within S + 1.5, and nothing that it started
-may be left. The tools are yosys, cadical and ABC. It is no part of tests/run.
+LOAD (16) programs do nothing but run. Beside them files are asked about that no engine decides in time, such that take longer to be read, a
+design that yosys reads for longer than there is time, and two such that are compared; with a limit of S seconds aigprove has to end within
+S + 1.5, and nothing that it started may be left. Where there is no answer the last line says so, as it does where engines had all the time.
+The tools are yosys, cadical and ABC. It is no part of tests/run.
 """
 import contextlib
 import os
+import random
+import re
 import subprocess
 import sys
 import time
@@ -20,6 +23,34 @@ LARGE = "\n".join([
     "module top(input clk, input [63:0] a, b);",
     *(f"  reg [63:0] r{i} = 0; always @(posedge clk) r{i} <= r{i} * a + b * {i}; assert property (r{i} != {i + 1});" for i in range(400)),
     "endmodule\n"])
+
+# How many gates a file has that takes long to be read.
+GATES = 600000
+# The last line of a run without an answer in time, and of one with an answer.
+LAST = re.compile(r"nothing was shown( of (liveness|j0))?|(no bad state|equal|no fair lasso of j0) up to step \d+.*|b\d+ .*|2|\."
+                  r"|(no bad state|equal) at any step.*|equal at every step.*|the assumptions .*|step.*")
+
+
+def large(count, seed):
+    """A file with so many gates: sums of random nodes, and whether all of many such are 1; its latches may start with either value."""
+    rng, literals, gates = random.Random(seed), list(range(2, 2 * 128 + 2, 2)), []
+
+    def both(left, right):
+        literals.append(2 * len(literals) + 2)
+        gates.append(f"{literals[-1]} {max(left, right)} {min(left, right)}")
+        return literals[-1]
+
+    while len(gates) < count:
+        left, right = rng.sample(literals[-5000:], 2)
+        both(both(left, right) ^ 1, both(left ^ 1, right ^ 1) ^ 1)
+    bad = literals[-1]
+    for literal in rng.sample(literals[:-1], 40):
+        bad = both(bad, literal)
+    nexts = rng.sample(literals, 64)
+    latches = [f"{latch} {next} {latch}" for latch, next in zip(range(2 * 64 + 2, 2 * 128 + 2, 2), nexts)]
+    head = f"aag {len(literals)} 64 64 0 {len(gates)} 1 0 1"
+    lines = [head, *(str(2 * i + 2) for i in range(64)), *latches, str(bad), "1", str(bad), *gates]
+    return "\n".join([*lines, ""])
 
 
 @contextlib.contextmanager
@@ -49,20 +80,25 @@ def main():
     harness.compile_aigprove()
     with harness.new_folder() as folder, busy(load):
         (folder / "large.v").write_text(LARGE)
+        for number in range(2):
+            (folder / f"large{number}.aag").write_text(large(GATES, number))
         environment = {**os.environ, "FOLDER": str(folder), "TMPDIR": str(folder)}
+        hard = TESTS / "designs" / "lfsr60.aig"
         for words in [
-            [TESTS / "designs" / "lfsr60.aig"],
-            ["--each", TESTS / "designs" / "lfsr60.aig"],
-            ["large.v"],
-            ["--equal", "large.v", "large.v"],
+            [hard], ["--each", hard], ["--keep", "kept", hard], ["--aiger", hard], ["large.v"], ["--equal", "large.v", "large.v"],
+            ["large0.aag"], ["--each", "large0.aag"], ["--justice", "0", "large0.aag"], ["--aiger", "large0.aag"],
+            ["--equal", "large1.aag", "large0.aag"], ["--equal", "large1.aag", "--starts", "by-order", "large0.aag"],
+            ["--certificate", "large1.aag", "large0.aag"],
         ]:
             begun = time.monotonic()
             status, printed, _ = harness.run([PROVE, "-q", "--timeout", str(SECONDS), *words], cwd=folder, env=environment)
             seconds = time.monotonic() - begun
             tally.check(seconds <= SECONDS + MORE, f"{words}: {seconds:.1f} s")
             # What is decided in time is an answer, too.
-            tally.check(status in (0, 10) and not list(left(folder)), f"{words}: status {status}, {list(left(folder))}")
-            print(f"{' '.join(map(str, words))}: {seconds:.2f} s, {printed.decode()!r}", flush=True)
+            tally.check(status in (0, 10, 20) and not list(left(folder)), f"{words}: status {status}, {list(left(folder))}")
+            last = (printed.decode().splitlines() or [""])[-1]
+            tally.check(LAST.fullmatch(last), f"{words}: the last line is {last!r}")
+            print(f"{' '.join(map(str, words))}: {seconds:.2f} s, status {status}, {printed.decode()!r}", flush=True)
     return tally.end()
 
 
