@@ -253,7 +253,3 @@ class Job:
             shown = [it for it in others if self.checker.holds(self.problem.claimed(it))]
         traces = self.source.mattering([trace, *shown])
         self.board.hand_in(self.task, RunFound(traces))
-
-    def bound_reached(self) -> None:
-        """Notes that all steps up to the bound were shown."""
-        self.board.clock.end_soon()

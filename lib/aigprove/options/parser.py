@@ -25,6 +25,7 @@ from aigprove.output.messages import escaped, tell
 from aigprove.processes.files import sealed
 
 Number = TypeVar("Number", int, float)
+Record = TypeVar("Record", Options, DesignOptions)
 TOP = os.path.realpath(os.path.join(os.path.dirname(os.path.realpath(__file__)), "../../.."))
 PROGRAMS = ["aigtool", "aigedit", "aigcheck"]
 # Stands in the place of --, and is nothing that a command line can have.
@@ -247,14 +248,19 @@ def parse(line: Sequence[str]) -> Options:
     engines = words.engine or [name for kind in kinds for name in names_of(kind)]
     certificate, run = (sealed(path, words.limit) if path else None
                         for path in [words.certificate, words.run])
-    made: dict[str, Any] = {
-        "files": tuple(words.files), "design": design_options(words, deadline),
-        "solver": solver_options(words.solver), "abc": words.abc and found(words.abc),
-        "programs": Programs(*(trusted(name, getattr(words, name)) for name in PROGRAMS)),
-        "engines": tuple(engines), "are_engines_named": bool(words.engine),
-        "certificate": certificate, "run": run, "deadline": deadline}
-    given = {name: it for name, it in vars(words).items() if name in Options._fields}
-    return Options(**{**given, **made})
+    return record(
+        Options, words, design=design_options(words, deadline), deadline=deadline,
+        solver=solver_options(words.solver), abc=words.abc and found(words.abc),
+        programs=Programs(*(trusted(name, getattr(words, name)) for name in PROGRAMS)),
+        engines=tuple(engines), are_engines_named=bool(words.engine),
+        certificate=certificate, run=run)
+
+
+def record(made: type[Record], words: argparse.Namespace, /, **further: object) -> Record:
+    """Returns a record of what a command line says, and what follows from that."""
+    given = {name: tuple(it) if isinstance(it, list) else it
+             for name, it in vars(words).items() if name in made._fields}
+    return made(**{**given, **further})
 
 
 def age() -> float:
@@ -279,12 +285,9 @@ def design_options(words: argparse.Namespace, deadline: float) -> DesignOptions:
     is_one = words.equal or words.certificate or words.run or words.aiger \
         or words.property is not None
     later = set() if is_one else {LIVE, FAIR, *[COVER] * words.each}
-    return DesignOptions(
-        top=words.top, define=tuple(words.define), include=tuple(words.include),
-        parameter=tuple(words.parameter), black_box=tuple(words.black_box),
-        multiclock=words.multiclock, reset=words.reset, later=frozenset(later),
-        kind=ASSERT if words.justice is None else LIVE, is_compared=bool(words.equal),
-        is_quiet=words.quiet, deadline=deadline)
+    return record(DesignOptions, words, later=frozenset(later), is_compared=bool(words.equal),
+                  kind=ASSERT if words.justice is None else LIVE, is_quiet=words.quiet,
+                  deadline=deadline)
 
 
 def solver_options(words: list[str] | None) -> SolverOptions:

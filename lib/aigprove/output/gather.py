@@ -14,7 +14,7 @@ from aigprove.engines.separate import SeparateProperties
 from aigprove.output.evidence import ABOVE, EVIDENCE, EvidenceFolder
 from aigprove.output.messages import reason, say
 from aigprove.output.report import PropertyAnswer
-from aigprove.processes.files import NODE, Sealed
+from aigprove.processes.files import NODE, Sealed, opened
 from aigprove.processes.scheduler import for_each
 from aigprove.questions.assumptions import ENDLESS
 from aigprove.questions.bad_states import BadStates
@@ -39,9 +39,8 @@ ASSUMED = ("possible.aag", ENDLESS)
 
 def taken(path: str, limit: int) -> Sealed:
     """Returns a sealed copy of a regular file, of at most so many nodes."""
-    flags = os.O_RDONLY | os.O_NOFOLLOW | os.O_NONBLOCK
     try:
-        file = open(path, "rb", opener=lambda it, _: os.open(it, flags))
+        file = opened(path)
     except OSError as why:
         raise Fault(f"{path}: {why.strerror}") from None
     with file:

@@ -190,23 +190,25 @@ class Printer:
         """Writes a certificate of an answer, if one is wanted."""
         if not self.options.write_certificate:
             return
+        made = self.certificate_of(answer)
+        if isinstance(made, str):
+            self.tell_no_certificate(made)
+        else:
+            write(self.options.write_certificate, [made])
+
+    def certificate_of(self, answer: Induction | Certified | CountedRounds) -> bytes | str:
+        """Returns a certificate of an answer, or why there is none."""
         from aigprove.circuits import certificates
 
         circuit = self.job.problem.circuit
         if isinstance(answer, CountedRounds):
-            self.tell_no_certificate("the answer is about rounds")
-        elif isinstance(answer, Certified):
+            return "the answer is about rounds"
+        if isinstance(answer, Certified):
             machine = self.job.checker.circuit(answer.machine, "the certificate")
-            self.write_certificate(certificates.by_invariant(circuit, machine))
-        elif answer.question.form:
-            self.tell_no_certificate("the answer is about runs on which no state comes twice")
-        else:
-            self.write_certificate(certificates.by_window(circuit, answer.question.k))
-
-    def write_certificate(self, certificate: bytes) -> None:
-        """Writes a certificate to the file that was named."""
-        if self.options.write_certificate:
-            write(self.options.write_certificate, [certificate])
+            return certificates.by_invariant(circuit, machine)
+        if answer.question.form:
+            return "the answer is about runs on which no state comes twice"
+        return certificates.by_window(circuit, answer.question.k)
 
     def tell_no_certificate(self, why: str) -> None:
         """Says why no certificate is written, if one is wanted."""

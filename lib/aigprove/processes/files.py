@@ -137,6 +137,12 @@ def unpacked(packed: Sealed, path: str, most: int) -> Sealed:
         raise Fault(f"{path}: {why}") from None
 
 
+def opened(path: str) -> IO[bytes]:
+    """Opens a file, unless it is a link; one that isn't regular is no reason to wait."""
+    flags = os.O_RDONLY | os.O_NOFOLLOW | os.O_NONBLOCK
+    return open(path, "rb", opener=lambda it, _: os.open(it, flags))
+
+
 def write(path: str, pieces: Iterable[bytes], mode: str = "wb") -> None:
     """Writes pieces of bytes to a file."""
     try:
@@ -213,9 +219,8 @@ class Folder:
 
     def taken(self, name: str, what: str) -> Sealed:
         """Returns a sealed copy of a regular file that a program left in it."""
-        flags = os.O_RDONLY | os.O_NOFOLLOW | os.O_NONBLOCK
         try:
-            file = open(self.place(name), "rb", opener=lambda path, _: os.open(path, flags))
+            file = opened(self.place(name))
         except OSError:
             raise Fault(f"left no file as its {what}") from None
         with file:
