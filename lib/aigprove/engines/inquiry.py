@@ -4,7 +4,7 @@ from __future__ import annotations
 from typing import TYPE_CHECKING
 
 from aigprove.circuits.aiger import Fault
-from aigprove.engines.job import FAILED, OPEN, SAFE, UNSAFE, Board, Clock, Job, Problem
+from aigprove.engines.job import FAILED, OPEN, SAFE, UNSAFE, Board, Job, Problem
 from aigprove.engines.portfolio import Portfolio, engines_of
 from aigprove.options.options import Options
 from aigprove.output.messages import say, show_progress
@@ -27,7 +27,7 @@ class Inquiry:
         task = scope.task("main")
         self.checker = checker.of(task)
         self.problem = Problem(options, source, self.checker, above)
-        self.board = Board(Clock(options.deadline))
+        self.board = Board(options.deadline)
         self.job = Job(self.problem, task, self.board)
         self.evidence: Evidence | None = None
         if options.keep:

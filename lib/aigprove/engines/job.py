@@ -95,11 +95,22 @@ Answer = StepShown | Induction | Certified | CountedRounds | RunFound
 Make = Callable[["Job"], Engine]
 
 
-class Clock:
-    """When a question was begun, and when it is given up."""
+class Board:
+    """The answers that were handed in, what is known so far, when the question was begun, and when
+    it is given up."""
 
-    def __init__(self, deadline: float) -> None:
+    def __init__(self, deadline: float, steps: int = 0) -> None:
         self.begun, self.deadline = time.monotonic(), deadline
+        # Steps that were shown, from 0 on, those before a window that was, and proofs of questions
+        # about the steps up to K, by K.
+        self.steps, self.windowed = steps, 0
+        self.bounded: dict[int, Sealed] = {}
+        # The tasks of the engines that were started, and what they do.
+        self.tasks: list[Task] = []
+        self.doing: dict[str, str] = {}
+        # Whether the program of an engine for pairs runs.
+        self.has_begun = threading.Event()
+        self.events: queue.Queue[tuple[Task, Answer | Ended] | None] = queue.Queue()
 
     def seconds(self) -> float:
         """Returns for how long it was asked."""
@@ -114,23 +125,6 @@ class Clock:
 
         The other engines then get as much time as has passed, plus one second."""
         self.deadline = min(self.deadline, time.monotonic() + self.seconds() + 1)
-
-
-class Board:
-    """The answers that were handed in, and what is known so far."""
-
-    def __init__(self, clock: Clock, steps: int = 0) -> None:
-        self.clock = clock
-        # Steps that were shown, from 0 on, those before a window that was, and proofs of questions
-        # about the steps up to K, by K.
-        self.steps, self.windowed = steps, 0
-        self.bounded: dict[int, Sealed] = {}
-        # The tasks of the engines that were started, and what they do.
-        self.tasks: list[Task] = []
-        self.doing: dict[str, str] = {}
-        # Whether the program of an engine for pairs runs.
-        self.has_begun = threading.Event()
-        self.events: queue.Queue[tuple[Task, Answer | Ended] | None] = queue.Queue()
 
     def hand_in(self, task: Task, event: Answer | Ended) -> None:
         """Takes an answer of a task, or that it ended."""

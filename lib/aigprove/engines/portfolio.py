@@ -105,7 +105,7 @@ class Portfolio:
             self.is_free.set()
         self.left = sum([self.start(name, make) for name, make in engines.items()])
         status = None
-        while status is None and self.board.clock.left() > 0 and self.is_awaited():
+        while status is None and self.board.left() > 0 and self.is_awaited():
             status = self.take(TICK)
             self.scope.scheduler.look(TICK)
             self.sink.show_progress()

@@ -10,7 +10,7 @@ from collections.abc import Iterable, Sequence
 
 from aigprove.circuits.aiger import Circuit
 from aigprove.circuits.witness import Witness
-from aigprove.engines.job import (SAFE, UNSAFE, Answer, Board, Clock, Induction, Problem, RunFound,
+from aigprove.engines.job import (SAFE, UNSAFE, Answer, Board, Induction, Problem, RunFound,
                                   StepShown)
 from aigprove.engines.portfolio import Portfolio, engines_of
 from aigprove.options.options import Options
@@ -42,12 +42,12 @@ class PropertyPortfolio:
         self.problem = Problem(quiet(owner.options, engines), source, checker, owner.above)
         if circuit:
             self.problem.circuit, self.problem.header = circuit, circuit.header
-        self.board = Board(Clock(owner.deadline), min(answer.steps for answer in answers))
+        self.board = Board(owner.deadline, min(answer.steps for answer in answers))
         self.portfolio = Portfolio(self.problem, self.scope, self.board, self)
 
     def ask(self, seconds: float) -> bool:
         """Runs its engines for so many seconds at most, and returns whether they ended before."""
-        self.board.clock.deadline = min(self.owner.deadline, time.monotonic() + seconds)
+        self.board.deadline = min(self.owner.deadline, time.monotonic() + seconds)
         self.portfolio.run(engines_of(self.problem))
         is_over = not self.portfolio.left
         self.end_all()
@@ -55,7 +55,7 @@ class PropertyPortfolio:
 
     def end_all(self) -> None:
         """Ends what it runs."""
-        self.board.clock.deadline = 0
+        self.board.deadline = 0
         self.scope.stop()
         self.board.wake()
 

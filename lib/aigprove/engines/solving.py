@@ -58,7 +58,7 @@ class Steps(Asking):
             if not propagates and self.reaches(Question("query", k)):
                 return
         self.finish()
-        self.board.clock.end_soon()
+        self.board.end_soon()
 
     def steps(self) -> Iterator[int]:
         """Yields each step that no engine has shown yet, in order, up to the bound."""
@@ -124,7 +124,7 @@ class Bounded(Asking):
                 self.job.hand_in_run(self.least(max(shown, self.board.steps - 1), run))
                 return
             shown = k
-        self.board.clock.end_soon()
+        self.board.end_soon()
 
     def steps(self) -> Iterator[int]:
         """Yields the numbers of steps."""

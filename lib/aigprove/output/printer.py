@@ -27,93 +27,20 @@ if TYPE_CHECKING:
 SECONDS, SHOWN, ALIKE = 1, 8, 5
 
 
-class RunPrinter:
-    """Prints a run, and writes it to the files that are wanted."""
-
-    def __init__(self, job: Job, printer: Printer) -> None:
-        self.job, self.printer, self.problem = job, printer, job.problem
-        self.source, self.options = job.problem.source, job.options
-        # The run, once it is printed.
-        self.trace: Witness | None = None
-
-    def print(self, traces: Sequence[Witness]) -> None:
-        """Prints a run without what doesn't matter, and writes it."""
-        self.source.confirm(traces[0])
-        circuit, options, printer = self.source.circuit(), self.options, self.printer
-        signals = Signals(circuit)
-        printer.print_line(self.source.found(signals, traces), True)
-        printer.status = UNSAFE
-        is_written = options.aiger or options.keep or options.witness or options.vcd
-        if options.quiet and not is_written:
-            return
-        traces = self.smallest(traces)
-        trace = self.trace = traces[0]
-        if options.vcd or not options.quiet:
-            for line in self.source.lines(signals, circuit, trace):
-                printer.print_line(line)
-        if printer.evidence:
-            printer.evidence.shows(self.problem.claimed(trace))
-        if options.witness:
-            write(options.witness, [self.source.of_file(trace).text().encode()])
-        if options.vcd:
-            dump = self.source.dump(circuit, trace)
-            write(options.vcd, (f"{line}\n".encode() for line in dump))
-        self.print_alike(len(trace.steps) - 1)
-
-    def holds(self, trace: Witness, traces: Sequence[Witness]) -> bool:
-        """Returns whether a run shows all that some witnesses do."""
-        return all(self.job.checker.holds(self.problem.claimed(trace.showing(it.bad)))
-                   for it in traces)
-
-    def smallest(self, traces: Sequence[Witness]) -> Sequence[Witness]:
-        """Returns witnesses of a run with x for what doesn't matter to what they show.
-
-        Of a small run a simulation finds that, and it is checked."""
-        if len(traces) > SHOWN:
-            return traces
-        circuit, opened = self.problem.circuit, self.problem.circuit.opened()
-        seconds = min(SECONDS, self.job.board.clock.left())
-        if len(traces[0].steps) * len(circuit.gates) <= SMALL:
-            bads = [trace.bad for trace in traces]
-            found = simulated(circuit, traces[0], opened, bads, seconds)
-            if self.holds(found, traces):
-                return [found.showing(trace.bad) for trace in traces]
-        found = minimal(traces[0], opened, lambda it: self.holds(it, traces), seconds)
-        return [found.showing(trace.bad) for trace in traces]
-
-    def print_alike(self, k: int) -> None:
-        """Prints that nothing differs at a step if registers start alike, and how to ask so.
-
-        That is done if it is soon shown."""
-        options = self.options
-        seconds = math.floor(min(ALIKE, self.job.board.clock.left()))
-        if seconds <= 0 or not options.solver.is_cadical or options.quiet or options.aiger:
-            return
-        question = Question("query", k)
-        with contextlib.suppress(Fault):
-            if alike := self.source.alike():
-                solver = self.job.solver().within(seconds)
-                has_solution, given = solver.ask(question, alike.asked)
-                claim = alike.unsolvable(question, given)
-                if not has_solution and self.job.checker.shows(claim):
-                    self.printer.print_claim(claim)
-                    self.printer.print_line(f"--starts {alike.way()} compares so")
-
-
 class Printer:
     """A sink that prints answers and errors, each in the place of the line of progress."""
 
     def __init__(self, job: Job, evidence: Evidence | None) -> None:
-        self.job, self.evidence = job, evidence
-        self.options, self.source, self.board = job.options, job.problem.source, job.board
-        # The last line that was printed, and what prints the run that was found.
+        self.job, self.evidence, self.problem = job, evidence, job.problem
+        self.options, self.source, self.board = job.options, job.source, job.board
+        # The last line that was printed, the run that was, and the exit status, once the line of
+        # the answer is printed.
         self.last: str | None = None
-        self.run = RunPrinter(job, self)
-        # The exit status, once the line of the answer is printed.
+        self.trace: Witness | None = None
         self.status: int | None = None
 
     def take(self, engine: str, answer: Answer) -> int | None:
-        status, seconds = self.print_answer(answer), self.board.clock.seconds()
+        status, seconds = self.print_answer(answer), self.board.seconds()
         if self.options.verbose and status is not None:
             say(f"{engine} answered after {seconds:.1f} s")
         if self.evidence and status is not None:
@@ -130,7 +57,7 @@ class Printer:
     def show_progress(self) -> None:
         if sys.stderr.isatty():
             doing = [*self.board.doing.values(), *self.job.task.scheduler.reading()]
-            show_progress(f"{', '.join(doing)}: {self.board.clock.seconds():.0f} s")
+            show_progress(f"{', '.join(doing)}: {self.board.seconds():.0f} s")
 
     def print_answer(self, answer: Answer) -> int | None:
         """Prints an answer, and returns the exit status if it decides the question."""
@@ -139,7 +66,7 @@ class Printer:
             return None
         self.job.task.scope.end_others(self.job.task)
         if isinstance(answer, RunFound):
-            self.run.print(answer.traces)
+            self.print_run(answer.traces)
             return UNSAFE
         if isinstance(answer, Induction):
             self.print_claim(answer.window, self.source.prefix)
@@ -176,13 +103,78 @@ class Printer:
 
     def print_report(self, status: int) -> None:
         """Prints what the AIGER report has of a question that ends with this status."""
-        if trace := self.run.trace:
-            print(self.source.of_file(trace).text(), end="", flush=True)
+        if self.trace:
+            print(self.source.of_file(self.trace).text(), end="", flush=True)
             return
-        places = "".join(self.source.places(self.job.problem.header))
+        places = "".join(self.source.places(self.problem.header))
         # Without a run that reaches one it isn't known.
         reported = 0 if status == SAFE else 2
         print(f"{reported}\n{places}\n.\n", end="", flush=True)
+
+    # Runs.
+
+    def print_run(self, traces: Sequence[Witness]) -> None:
+        """Prints a run without what doesn't matter, and writes it."""
+        self.source.confirm(traces[0])
+        circuit, options = self.source.circuit(), self.options
+        signals = Signals(circuit)
+        self.print_line(self.source.found(signals, traces), True)
+        self.status = UNSAFE
+        is_written = options.aiger or options.keep or options.witness or options.vcd
+        if options.quiet and not is_written:
+            return
+        traces = self.smallest(traces)
+        trace = self.trace = traces[0]
+        if options.vcd or not options.quiet:
+            for line in self.source.lines(signals, circuit, trace):
+                self.print_line(line)
+        if self.evidence:
+            self.evidence.shows(self.problem.claimed(trace))
+        if options.witness:
+            write(options.witness, [self.source.of_file(trace).text().encode()])
+        if options.vcd:
+            dump = self.source.dump(circuit, trace)
+            write(options.vcd, (f"{line}\n".encode() for line in dump))
+        self.print_alike(len(trace.steps) - 1)
+
+    def holds(self, trace: Witness, traces: Sequence[Witness]) -> bool:
+        """Returns whether a run shows all that some witnesses do."""
+        return all(self.job.checker.holds(self.problem.claimed(trace.showing(it.bad)))
+                   for it in traces)
+
+    def smallest(self, traces: Sequence[Witness]) -> Sequence[Witness]:
+        """Returns witnesses of a run with x for what doesn't matter to what they show.
+
+        Of a small run a simulation finds that, and it is checked."""
+        if len(traces) > SHOWN:
+            return traces
+        circuit, opened = self.problem.circuit, self.problem.circuit.opened()
+        seconds = min(SECONDS, self.board.left())
+        if len(traces[0].steps) * len(circuit.gates) <= SMALL:
+            bads = [trace.bad for trace in traces]
+            found = simulated(circuit, traces[0], opened, bads, seconds)
+            if self.holds(found, traces):
+                return [found.showing(trace.bad) for trace in traces]
+        found = minimal(traces[0], opened, lambda it: self.holds(it, traces), seconds)
+        return [found.showing(trace.bad) for trace in traces]
+
+    def print_alike(self, k: int) -> None:
+        """Prints that nothing differs at a step if registers start alike, and how to ask so.
+
+        That is done if it is soon shown."""
+        options = self.options
+        seconds = math.floor(min(ALIKE, self.board.left()))
+        if seconds <= 0 or not options.solver.is_cadical or options.quiet or options.aiger:
+            return
+        question = Question("query", k)
+        with contextlib.suppress(Fault):
+            if alike := self.source.alike():
+                solver = self.job.solver().within(seconds)
+                has_solution, given = solver.ask(question, alike.asked)
+                claim = alike.unsolvable(question, given)
+                if not has_solution and self.job.checker.shows(claim):
+                    self.print_claim(claim)
+                    self.print_line(f"--starts {alike.way()} compares so")
 
     # Certificates.
 
@@ -200,7 +192,7 @@ class Printer:
         """Returns a certificate of an answer, or why there is none."""
         from aigprove.circuits import certificates
 
-        circuit = self.job.problem.circuit
+        circuit = self.problem.circuit
         if isinstance(answer, CountedRounds):
             return "the answer is about rounds"
         if isinstance(answer, Certified):
