@@ -757,6 +757,14 @@ def one_reading(tally, folder):
               "verilog_defaults -add -ppdump -noautowire", "script FD0/0/source/design2.v", "verilog_defaults -pop",
               "read_verilog -ppdump -noautowire -formal -sv -I FD1 FD0/0/source/design3.v"]
     tally.wants("front ends", [commands(*fronts)], reader.scripts(design))
+    for way, words, inner, end in [
+        (STRICT, "-ppdump -noautowire", "-ppdump -noautowire", "none"), (LOOKING, "-ppdump -dump_ast1", "-dump_ast1", "wire"),
+        (AGAIN, "-nopp -dump_ast1", "-dump_ast1", "wire"), (DECLARED, "-nopp -noautowire", "", "none"), (DECLARED_LATER, "-nopp", "", "wire"),
+    ]:
+        copied = {file.path: f"COPY{i}" for i, file in enumerate(files)}
+        given = design.script("-auto-top", way, "MADE", "READY", copied, ["BESIDE", "INCLUDE"]).splitlines()
+        tally.wants(words, [f"verilog_defaults -add {inner}", f"read_verilog {words} -formal -sv -I BESIDE -I INCLUDE COPY3"], [given[4], given[7]])
+        tally.wants(f"{words}: implicit nets", f"\n\n`default_nettype {end}\n".encode(), way.end)
     tally.wants("Verilog alone", {str(folder / "d.sv"): b"x"}, design.given())
     tally.wants("its text alone", b"x", open(design.yosys.place("0/source/design2.v"), "rb").read())
 
@@ -880,7 +888,7 @@ def features(tally, folder):
     tally.wants("each x is free, and names are plain", ["wire width 1 $free$1", "wire \\f.i", "connect \\y $free$1"],
                 [line.strip() for line in freed.yosys.text("below.il").splitlines() if "wire" in line or "connect" in line])
     joined = ONE.replace("\nend\n", "\n  attribute \\hierconn 1\n  wire \\s.i\nend\n")
-    tally.wants("joined nets", scripts.FLAT_FIRST, Reader(folder, joined).read().flat)
+    tally.wants("joined nets", "flatten\nselect -assert-none a:hierconn\nproc -noopt -norom", Reader(folder, joined).read().flat)
     tally.wants("hidden", None, refused(lambda: Reader(folder, joined + asserting("\\s", attributes=())).read()))
 
 
@@ -1135,6 +1143,8 @@ def made_files(tally, folder):
     reset = maker_of(folder, reset=Reset("rst", 0, 2))
     tally.wants("a reset", ("top: 1 assertion, 2 assumptions, rst=0 in the first 2 steps", True),
                 (reset[1].about(), "add -assume rst" in reset[0].written(reset[1])[1]))
+    late = [line for line in reset[0].written(reset[1])[1] if "aigprove_late.v" in line]
+    tally.wants("late", ["techmap -autoproc -max_iter 1 -map aigprove_late.v @late"], late)
     tally.wants("its maps", BY_MAPS, [line for line in reset[0].written(reset[1])[1] if line in BY_MAPS])
     several = maker_of(folder, reset=Reset("rst", 0, 2), multiclock=True)
     tally.wants("no reset is left", [*WRITING, "design -reset", *REPLAYING], several[0].written(several[1])[1])
@@ -1147,7 +1157,7 @@ def made_files(tally, folder):
         freeing = maker.written(design)[0]
         place = freeing.index("flatten") + 1
         tally.wants(kind, (chosen, counted), (freeing[place:place + len(chosen)], design.counts))
-    for cell, further in [("$add", ""), ("$pmux", ""), ("$div", " -map +/techmap.v"), ("$and", None), ("$mux", None)]:
+    for cell, further in [("$add", ""), ("$pmux", ""), ("$div", " -map +/techmap.v"), ("$and", None), ("$mux", None), ("$fair", None)]:
         maker = Maker(folder, with_cells(more=json_cell(cell, A=[4], B=[5], Y=[9])))
         writing = maker.written(maker.design())[1]
         lines = [] if further is None else [*BY_MAPS[:-1], BY_MAPS[-1] + further]

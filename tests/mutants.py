@@ -36,6 +36,8 @@ UNITS = {
     "designs/yosys.py": [("design_units", "yosys_units")],
     "designs/reading.py": [("design_units", "reading_units")],
     "designs/verilog.py": [("design_units", "design_units")],
+    "designs/front_ends.py": [("design_units", "yosys_units"), ("design_units", "reading_units")],
+    "designs/scripts.py": [("design_units", "reading_units"), ("design_units", "design_units")],
     "questions/checker.py": [("checker_units", "units")],
     "output/check.py": [("checker_units", "units")],
 }

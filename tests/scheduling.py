@@ -3,7 +3,8 @@
 
 Programs are `sleep`. With one job one of two runs, and the other is stopped; the turn goes to the task that ran least. What a scope is asked
 to end ends, and nothing of another scope, nor of the one task that is left. While an answer is checked others of the same question wait, and
-go on once it is refused. A folder that is too full ends its program, and no process is forked once there are threads."""
+go on once it is refused. A folder that is too full ends its program, and no process is forked once there are threads. Whatever the main thread
+does is given up once its time is over."""
 import contextlib
 import os
 import sys
@@ -11,6 +12,7 @@ import threading
 import time
 
 import harness
+from aigprove.asking import limited
 from aigprove.circuits.aiger import Fault
 from aigprove.processes import groups, scheduler
 from aigprove.processes.files import Folder
@@ -152,9 +154,53 @@ def forks(tally, made):
     tally.wants("no fork", (0, "there\n", []), (status, printed, calls))
 
 
+def computing():
+    """Work of Python's own, which looks at no clock."""
+    while True:
+        sorted(range(1000))
+
+
+def deadlines(tally, made):
+    """Whatever the main thread does is given up soon after a deadline, and nothing before that."""
+    task, lasting = Scope(made).task("main"), threading.Event()
+    for name, call in [
+        ("a program", lambda: task.output(LONG)), ("computing", computing), ("a call", groups.BackgroundCall(lasting.wait, 8).result),
+        ("several calls", lambda: scheduler.for_each(range(4), 2, lambda _: lasting.wait(8))),
+    ]:
+        begun = time.monotonic()
+        try:
+            with limited(begun + 0.5):
+                call()
+            is_given_up = False
+        except Stopped:
+            is_given_up = True
+        seconds = time.monotonic() - begun
+        tally.check(is_given_up and 0.5 <= seconds < 2.5, f"{name}: {'given up' if is_given_up else 'ended'} after {seconds:.2f} s")
+    lasting.set()
+    with limited(time.monotonic() + 0.2):
+        status = task.output(["true"])[0]
+    # The timer ended with what it limits.
+    time.sleep(1)
+    with limited(float("inf")):
+        printed = task.output(["echo", "here"])[1]
+    tally.wants("in time", (0, "here\n"), (status, printed))
+    tally.wants("each", [1, 4, 9], scheduler.for_each([1, 2, 3], 2, lambda it: it * it))
+    given = []
+
+    def fails(it):
+        given.append(it)
+        raise Fault(f"no {it}")
+
+    try:
+        scheduler.for_each([1], 1, fails)
+    except Fault as why:
+        given.append(str(why))
+    tally.wants("a fault", [1, "no 1"], given)
+
+
 def main():
     tally = harness.Tally()
-    for jobs, tests in (1, [turns]), (4, [scopes, gone, answers, limits, forks]):
+    for jobs, tests in (1, [turns]), (4, [scopes, gone, answers, limits, forks, deadlines]):
         made = Scheduler(jobs)
         for test in tests:
             test(tally, made)
