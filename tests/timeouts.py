@@ -27,7 +27,7 @@ LARGE = "\n".join([
 # How many gates a file has that takes long to be read.
 GATES = 600000
 # The last line of a run without an answer in time, and of one with an answer.
-LAST = re.compile(r"nothing was shown( of (liveness|j0))?|(no bad state|equal|no fair lasso of j0) up to step \d+.*|b\d+ .*|2|\."
+LAST = re.compile(r"nothing was shown( of (liveness|j0))?|a bad state .*|(no bad state|equal|no fair lasso of j0) up to step \d+.*|b\d+ .*|2|\."
                   r"|(no bad state|equal) at any step.*|equal at every step.*|the assumptions .*|step.*")
 
 
@@ -83,7 +83,7 @@ def main():
         for number in range(2):
             (folder / f"large{number}.aag").write_text(large(GATES, number))
         environment = {**os.environ, "FOLDER": str(folder), "TMPDIR": str(folder)}
-        hard = TESTS / "designs" / "lfsr60.aig"
+        hard = TESTS / "designs" / "count_wrap.aig"
         for words in [
             [hard], ["--each", hard], ["--keep", "kept", hard], ["--aiger", hard], ["large.v"], ["--equal", "large.v", "large.v"],
             ["large0.aag"], ["--each", "large0.aag"], ["--justice", "0", "large0.aag"], ["--aiger", "large0.aag"],

@@ -23,7 +23,7 @@ from aigprove.questions.target import Target
 GUESSING = ["guesses", "scorr", "merging"]
 SIGNALS = [signal.SIGTERM, signal.SIGHUP, signal.SIGINT, signal.SIGALRM]
 # How many seconds a question has to end by itself once its time is over.
-LATE = 0.4
+LATE = 0.25
 
 
 def targets(options: Options, above: str, checker: Checker) -> Iterator[Target]:
@@ -76,7 +76,7 @@ def asked(options: Options, above: str, checker: Checker) -> int:
         # The assertions have their answer, and the time was over while the file of what is asked
         # next was made.
         end_all(checker.task.scheduler)
-        tell_late(why)
+        tell_late(str(why))
         print("nothing was shown of liveness")
         statuses.append(OPEN)
     finally:
@@ -103,9 +103,9 @@ def end_evidence(inquiries: Sequence[Inquiry]) -> None:
         kept[0][0].end()
 
 
-def tell_late(why: Exception) -> None:
+def tell_late(why: str) -> None:
     """Says what was still at it when the time was over, if that is known."""
-    if str(why):
+    if why:
         say(why)
 
 
@@ -140,9 +140,8 @@ def undisturbed() -> Iterator[None]:
 
 def end_all(scheduler: Scheduler) -> None:
     """Ends all programs, and what they left."""
-    with undisturbed():
-        scheduler.stop()
-        bury()
+    scheduler.stop()
+    bury()
 
 
 def answer(options: Options) -> int:
@@ -162,11 +161,11 @@ def answer(options: Options) -> int:
         with limited(options.deadline):
             return (tabled if options.each else asked)(options, above, checker)
     except (TranslationTimeout, Stopped) as why:
-        end_all(scheduler)
-        tell_late(why)
-        print("2\n." if options.aiger else "nothing was shown")
-        return OPEN
+        late = str(why)
     finally:
-        end_all(scheduler)
         with undisturbed():
+            end_all(scheduler)
             remove(above)
+    tell_late(late)
+    print("2\n." if options.aiger else "nothing was shown")
+    return OPEN

@@ -66,6 +66,8 @@ class Inquiry:
         engines = engines_of(self.problem)
         try:
             status = portfolio.run(engines)
+            if status is None:
+                self.scope.end_others(self.job.task)
         except Stopped:
             self.scope.stop()
             status = self.printer.status
@@ -73,7 +75,6 @@ class Inquiry:
         if status is None and len(portfolio.failed) == len(engines):
             return FAILED
         if status is None:
-            self.scope.end_others(self.job.task)
             self.printer.print_open()
             return OPEN
         return status
