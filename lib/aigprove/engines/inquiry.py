@@ -27,6 +27,8 @@ class Inquiry:
         task = scope.task("main")
         self.checker = checker.of(task)
         self.problem = Problem(options, source, self.checker, above)
+        # A file that isn't taken is refused before all else.
+        self.header = self.problem.header
         self.board = Board(options.deadline)
         self.job = Job(self.problem, task, self.board)
         self.evidence: Evidence | None = None
@@ -47,7 +49,7 @@ class Inquiry:
         if status != SAFE:
             self.printer.tell_no_certificate(
                 "the answer is a run" if status == UNSAFE else "there is no answer")
-        if status == SAFE and self.source.assumed(self.problem.header):
+        if status == SAFE and self.source.assumed(self.header):
             from aigprove.questions.assumptions import Assumptions
 
             status = self.status_of(Assumptions(self.source, self.checker))
