@@ -160,12 +160,26 @@ def computing():
         sorted(range(1000))
 
 
+class Dropped:
+    """What takes a while to be dropped, whatever is raised meanwhile."""
+
+    def __del__(self):
+        time.sleep(0.2)
+
+
+def dropping():
+    """Work that is almost all in dropping objects."""
+    while True:
+        Dropped()
+        sorted(range(500000))
+
+
 def deadlines(tally, made):
     """Whatever the main thread does is given up soon after a deadline, and nothing before that."""
     task, lasting = Scope(made).task("main"), threading.Event()
     for name, call in [
         ("a program", lambda: task.output(LONG)), ("computing", computing), ("a call", groups.BackgroundCall(lasting.wait, 8).result),
-        ("several calls", lambda: scheduler.for_each(range(4), 2, lambda _: lasting.wait(8))),
+        ("dropping", dropping), ("several calls", lambda: scheduler.for_each(range(4), 2, lambda _: lasting.wait(8))),
     ]:
         begun = time.monotonic()
         try:

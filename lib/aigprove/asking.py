@@ -4,9 +4,9 @@ import math
 import os
 import signal
 import tempfile
-import threading
 import time
 from collections.abc import Iterator, Sequence
+from types import FrameType
 
 from aigprove.designs.front_ends import LIVE, TranslationTimeout
 from aigprove.engines.inquiry import Inquiry
@@ -22,8 +22,9 @@ from aigprove.questions.target import Target
 # What guesses what corresponds in two files, and what asks about that.
 GUESSING = ["guesses", "scorr", "merging"]
 SIGNALS = [signal.SIGTERM, signal.SIGHUP, signal.SIGINT, signal.SIGALRM]
-# How many seconds a question has to end by itself once its time is over.
-LATE = 0.25
+# How many seconds a question has to end by itself once its time is over, and after how many that
+# is tried again.
+LATE, AGAIN = 0.25, 0.01
 
 
 def targets(options: Options, above: str, checker: Checker) -> Iterator[Target]:
@@ -109,8 +110,15 @@ def tell_late(why: str) -> None:
         say(why)
 
 
-def end_late(_: int, __: object) -> None:
-    """Has the main thread give up what it does."""
+def end_late(_: int, frame: FrameType | None) -> None:
+    """Has the main thread give up what it does.
+
+    What is raised while an object is dropped is passed over by Python: then it is raised later."""
+    while frame:
+        if frame.f_code.co_name == "__del__":
+            signal.setitimer(signal.ITIMER_REAL, AGAIN)
+            return
+        frame = frame.f_back
     raise Stopped
 
 
@@ -119,8 +127,7 @@ def limited(deadline: float) -> Iterator[None]:
     """Gives up what the main thread does soon after a deadline, whatever that is."""
     signal.signal(signal.SIGALRM, end_late)
     if deadline < math.inf:
-        left = max(deadline - time.monotonic() + LATE, LATE)
-        signal.setitimer(signal.ITIMER_REAL, min(left, threading.TIMEOUT_MAX))
+        signal.setitimer(signal.ITIMER_REAL, max(deadline - time.monotonic(), 0) + LATE)
     try:
         yield
     finally:

@@ -292,7 +292,7 @@ class Scheduler:
 def for_each(items: Iterable[S], jobs: int, call: Callable[[S], T]) -> list[T]:
     """Returns what a call returns for each of some items, so many at once.
 
-    Calls whose work was given up aren't waited for."""
+    Calls whose work the main thread gave up aren't waited for."""
     # It takes a while to be imported.
     from concurrent.futures import ThreadPoolExecutor
 
@@ -300,7 +300,7 @@ def for_each(items: Iterable[S], jobs: int, call: Callable[[S], T]) -> list[T]:
     try:
         return list(pool.map(call, items))
     except Stopped:
-        is_awaited = False
+        is_awaited = threading.current_thread() is not threading.main_thread()
         raise
     finally:
         pool.shutdown(wait=is_awaited, cancel_futures=True)
