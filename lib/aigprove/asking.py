@@ -3,7 +3,6 @@ import contextlib
 import math
 import os
 import signal
-import tempfile
 import time
 from collections.abc import Iterator, Sequence
 from types import FrameType
@@ -13,6 +12,7 @@ from aigprove.engines.inquiry import Inquiry
 from aigprove.engines.job import FAILED, OPEN, SAFE, UNSAFE
 from aigprove.options.options import Options
 from aigprove.output.messages import say
+from aigprove.processes.files import new_folder
 from aigprove.processes.groups import adopt, bury, remove
 from aigprove.processes.scheduler import Scheduler, Scope, Stopped
 from aigprove.questions.bad_states import BadStates, Property
@@ -161,9 +161,10 @@ def answer(options: Options) -> int:
 
         scheduler.server = ForkServer(GUESSING)
     programs, task = options.programs, Scope(scheduler).task("main")
+    temporary = [os.environ.get("TMPDIR", ""), "/tmp", "."]
     checker = Checker.begin(task, programs.aigtool, programs.aigedit, programs.aigcheck,
                             options.limit)
-    above = tempfile.mkdtemp(prefix="aigprove-")
+    above = new_folder(next(filter(os.path.isdir, temporary)), "aigprove")
     try:
         with limited(options.deadline):
             return (tabled if options.each else asked)(options, above, checker)

@@ -8,9 +8,7 @@ import contextlib
 import json
 import os
 import re
-import shutil
 import subprocess
-import tempfile
 import time
 from collections.abc import Callable, Iterator, Mapping, Sequence
 from typing import Any
@@ -21,6 +19,7 @@ from aigprove.designs.netlist import Json
 from aigprove.designs.rtlil import Statement, parse
 from aigprove.designs.texts import EXPANDED
 from aigprove.output.messages import ending, plain
+from aigprove.processes.files import in_memory, path_of
 from aigprove.processes.groups import Words
 from aigprove.processes.scheduler import Stopped, Task
 
@@ -51,7 +50,7 @@ class Yosys:
     stands beside the file."""
 
     def __init__(self, files: Sequence[File], folder: str, task: Task, deadline: float) -> None:
-        if shutil.which("yosys") is None:
+        if path_of("yosys") is None:
             raise Fault("yosys is not installed, which makes a file of a design")
         self.path, self.folder, self.task, self.deadline = files[0].path, folder, task, deadline
         self.beside = list(dict.fromkeys(os.path.dirname(file.path) or "." for file in files))
@@ -196,7 +195,7 @@ class Run:
     """A run of yosys, which is given up once the time is over."""
 
     def __init__(self, yosys: Yosys, words: Words, **streams: Any) -> None:
-        self.yosys, self.out = yosys, tempfile.TemporaryFile()
+        self.yosys, self.out = yosys, in_memory()
         self.outcome: tuple[int, bytes] | None = None
         self.late = TranslationTimeout(
             f"{yosys.path}: yosys was still at it when the time was over")

@@ -3,7 +3,6 @@ on several of its properties at once, and on files that count rounds of a justic
 from __future__ import annotations
 
 import functools
-import shutil
 from collections.abc import Iterable, Mapping, Sequence
 from typing import TYPE_CHECKING, cast
 
@@ -15,7 +14,7 @@ from aigprove.engines.certificate import Certificate
 from aigprove.engines.job import CountedRounds, Job, Missing, Problem
 from aigprove.options.options import Options
 from aigprove.output.messages import ending
-from aigprove.processes.files import Folder, Sealed
+from aigprove.processes.files import Folder, Sealed, path_of
 from aigprove.processes.groups import Words
 from aigprove.processes.scheduler import Task
 from aigprove.questions.checker import Checker, Claim
@@ -38,7 +37,7 @@ COUNTS = [1, 2, 4, 8, 16]
 def path_of_abc(given: str | None) -> str:
     """Returns the path of ABC: the one that is given, or that is found."""
     for name in [given] if given else ABCS:
-        if program := shutil.which(name):
+        if program := path_of(name):
             return program
     raise Missing(f"none of {', '.join(ABCS)} is installed")
 

@@ -7,7 +7,6 @@ import math
 import os
 import re
 import shlex
-import shutil
 import subprocess
 import sys
 import time
@@ -22,7 +21,7 @@ from aigprove.engines.rows import FILES, PAIRS, ROWS, names_of
 from aigprove.options.options import (CONSTRAINTS, HINTED, STARTS, DesignOptions, Options, Programs,
                                       Reset, SolverOptions)
 from aigprove.output.messages import escaped, tell
-from aigprove.processes.files import sealed
+from aigprove.processes.files import path_of, sealed
 
 Number = TypeVar("Number", int, float)
 Record = TypeVar("Record", Options, DesignOptions)
@@ -192,7 +191,7 @@ def of_list(path: str, depth: int) -> list[str]:
 def program(places: Iterable[str], missing: str) -> str:
     """Returns the path of the first of some programs that is there."""
     for place in places:
-        if path := shutil.which(place):
+        if path := path_of(place):
             return os.path.abspath(path)
     raise Fault(missing)
 

@@ -7,9 +7,7 @@ import fcntl
 import io
 import os
 import resource
-import shutil
 import stat
-import tempfile
 from collections.abc import Iterable, Iterator
 from typing import IO, TYPE_CHECKING, Protocol
 
@@ -34,6 +32,28 @@ PART = 4
 FILES = 1000
 # How many bytes of what a program says on standard error are passed on.
 SAID = 4096
+
+
+def path_of(program: str) -> str | None:
+    """Returns the path of a program, which may be found by its name, if it is there."""
+    # Python's own way takes a while to be imported.
+    for folder in os.get_exec_path() if os.path.basename(program) == program else [""]:
+        path = os.path.join(folder, program)
+        if os.path.isfile(path) and os.access(path, os.X_OK):
+            return path
+    return None
+
+
+def new_folder(above: str, begin: str) -> str:
+    """Makes a new folder in another, for this user alone, whose name begins so."""
+    path = os.path.join(os.path.abspath(above), f"{begin}-{os.urandom(8).hex()}")
+    os.mkdir(path, 0o700)
+    return path
+
+
+def in_memory() -> IO[bytes]:
+    """Opens a new file in memory, which is gone once it is closed."""
+    return open(os.memfd_create("printed"), "w+b")
 
 
 class Readable(Protocol):
@@ -165,9 +185,9 @@ class Folder:
     The engine's program is told of no other folder."""
 
     def __init__(self, above: str) -> None:
-        self.path = tempfile.mkdtemp(prefix="engine-", dir=above)
+        self.path, free = new_folder(above, "engine"), os.statvfs(above)
         memory = os.sysconf("SC_PHYS_PAGES") * os.sysconf("SC_PAGE_SIZE")
-        self.limit = max(min(shutil.disk_usage(self.path).free, memory) // PART, 1 << 20)
+        self.limit = max(min(free.f_bavail * free.f_frsize, memory) // PART, 1 << 20)
 
     def __enter__(self) -> Folder:
         return self

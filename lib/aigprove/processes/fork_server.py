@@ -9,7 +9,6 @@ import json
 import os
 import signal
 import sys
-import tempfile
 import threading
 from collections.abc import Sequence
 from types import ModuleType
@@ -94,7 +93,7 @@ def run(module: ModuleType, words: Sequence[str], folder: str) -> None:
     try:
         close_others(set())
         os.chdir(folder)
-        os.environ["TMPDIR"] = tempfile.tempdir = folder
+        os.environ["TMPDIR"] = folder
         set_streams({0: (os.devnull, os.O_RDONLY),
                      1: ("out", os.O_WRONLY), 2: ("err", os.O_WRONLY)})
         status = module.main(*words)

@@ -5,7 +5,6 @@ from __future__ import annotations
 import contextlib
 import os
 import resource
-import shutil
 import signal
 import subprocess
 import threading
@@ -89,9 +88,6 @@ def bury(kept: Collection[int] = ()) -> None:
 
 def remove(path: str) -> None:
     """Removes a folder, however deep it is and whatever its rights."""
-    # It gives up if a folder is too deep, or has no rights.
-    with contextlib.suppress(RecursionError):
-        shutil.rmtree(path, ignore_errors=True)
     for words in [["rm", "-rf"], ["chmod", "-R", "u+rwx"], ["rm", "-rf"]]:
         if os.path.lexists(path):
             subprocess.run([*words, "--", path], stdin=subprocess.DEVNULL,

@@ -4,7 +4,6 @@ from __future__ import annotations
 import contextlib
 import os
 import signal
-import tempfile
 import threading
 import time
 from collections.abc import Callable, Collection, Iterable, Iterator
@@ -12,7 +11,7 @@ from typing import TYPE_CHECKING, Any, TypeVar
 
 from aigprove.circuits.aiger import Fault
 from aigprove.output.messages import plain, unnamed
-from aigprove.processes.files import Folder, Sealed
+from aigprove.processes.files import Folder, Sealed, in_memory
 from aigprove.processes.groups import Group, Keeper, Words, bury
 
 if TYPE_CHECKING:
@@ -61,7 +60,7 @@ class Task:
         Returns its status, what it prints, and what it says on standard error, without the paths
         and places of sealed files, which stand among its words."""
         sealed = [word for word in words if isinstance(word, Sealed)]
-        with tempfile.TemporaryFile() as out, tempfile.TemporaryFile() as said:
+        with in_memory() as out, in_memory() as said:
             options: dict[str, Any] = {"stdout": out, "stderr": said, **streams}
             descriptors = [file.fileno() for file in sealed]
             status = self.finish(self.start(words, pass_fds=descriptors, **options))

@@ -5,13 +5,12 @@ read-only copy of the file. Nothing else in the package says what a machine does
 from __future__ import annotations
 
 import re
-import tempfile
 from collections.abc import Mapping, Sequence
 from typing import IO, NamedTuple, Protocol
 
 from aigprove.circuits.aiger import LIMIT, Circuit, Fault, Header, Lines
 from aigprove.output.messages import ending
-from aigprove.processes.files import Sealed, Word
+from aigprove.processes.files import Sealed, Word, in_memory
 from aigprove.processes.scheduler import Task
 
 # How the first line of what aigcheck says ends where a proof doesn't follow.
@@ -110,7 +109,7 @@ class Checker(NamedTuple):
 
     def printed(self, *words: Word) -> Sealed:
         """Returns what a program prints, sealed."""
-        with tempfile.TemporaryFile() as out:
+        with in_memory() as out:
             self.print(words, out)
             out.seek(0)
             return Sealed(out)

@@ -1,7 +1,6 @@
 """Files as they were named: their bytes are read once, into memory that nobody can write."""
 from __future__ import annotations
 
-import tempfile
 from collections.abc import Iterator, Sequence
 from typing import TYPE_CHECKING
 
@@ -9,7 +8,7 @@ from aigprove.circuits.aiger import Circuit, Fault, Header, Lines, Symbols, deco
 from aigprove.designs.front_ends import FRONTS, STANDARD_INPUT, VERILOG, File, kind_of
 from aigprove.options.options import DesignOptions
 from aigprove.output.messages import say
-from aigprove.processes.files import Sealed, sealed
+from aigprove.processes.files import Sealed, new_folder, sealed
 from aigprove.questions.checker import Checker
 
 if TYPE_CHECKING:
@@ -43,7 +42,7 @@ class InputFile:
             # there is a design, as here.
             from aigprove.designs import verilog
 
-            folder = tempfile.mkdtemp(prefix="design-", dir=above)
+            folder = new_folder(above, "design")
             files = [File(path, file.data()) for path, file in zip(paths, self.given)]
             self.design = verilog.Design(files, options, folder, checker.task)
         self.take(sealed(self.design.file, checker.limit) if self.design else self.given[0])
