@@ -6,13 +6,14 @@ import contextlib
 import os
 import resource
 import signal
+import stat
 import subprocess
 import threading
 import time
 from collections.abc import Callable, Collection, Iterator, Sequence
 from typing import TYPE_CHECKING, Any, Generic, NamedTuple, Protocol, TypeVar
 
-from aigprove.processes.files import Sealed, Word
+from aigprove.processes.files import Sealed, Word, entries_of, remove_flat
 
 if TYPE_CHECKING:
     from aigprove.processes.files import Folder
@@ -88,6 +89,9 @@ def bury(kept: Collection[int] = ()) -> None:
 
 def remove(path: str) -> None:
     """Removes a folder, however deep it is and whatever its rights."""
+    for folder in [it for it, status in entries_of(path) if stat.S_ISDIR(status.st_mode)]:
+        remove_flat(folder)
+    remove_flat(path)
     for words in [["rm", "-rf"], ["chmod", "-R", "u+rwx"], ["rm", "-rf"]]:
         if os.path.lexists(path):
             subprocess.run([*words, "--", path], stdin=subprocess.DEVNULL,
