@@ -322,9 +322,19 @@ def hung():
     with running(*hangs) as run:
         own, other = pty.openpty()
         given = run.result(["--engine", "pdr", "--timeout", "2"], stderr=other)[1]
-        said = os.read(own, 4096).decode()
+        said = read(own)
         shown = "pdr: 0 s" in said, "pdr: 1 s" in said, said.endswith("\r\x1b[K")
         yield "a terminal", ((True, True, True), "nothing was shown\n"), (shown, given)
+
+
+def read(terminal):
+    """What was written to a terminal, up to where a line is cleared: it may come a moment later."""
+    os.set_blocking(terminal, False)
+    said, end = "", time.monotonic() + 2
+    while not said.endswith("\r\x1b[K") and time.monotonic() < end:
+        with contextlib.suppress(BlockingIOError):
+            said += os.read(terminal, 4096).decode()
+    return said
 
 
 def together():
