@@ -24,7 +24,7 @@ GUESSING = ["guesses", "scorr", "merging"]
 SIGNALS = [signal.SIGTERM, signal.SIGHUP, signal.SIGINT, signal.SIGALRM]
 # How many seconds a question has to end by itself once its time is over, and after how many that
 # is tried again.
-LATE, AGAIN = 0.25, 0.01
+LATE, AGAIN = 0.15, 0.01
 
 
 def targets(options: Options, above: str, checker: Checker) -> Iterator[Target]:

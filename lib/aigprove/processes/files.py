@@ -179,15 +179,6 @@ def entries_of(path: str) -> Iterator[tuple[str, os.stat_result]]:
             yield entry.path, entry.stat(follow_symlinks=False)
 
 
-def remove_flat(path: str) -> None:
-    """Removes a folder that has no others in it; of one that has some the other files."""
-    for file, _status in entries_of(path):
-        with contextlib.suppress(OSError):
-            os.unlink(file)
-    with contextlib.suppress(OSError):
-        os.rmdir(path)
-
-
 class Folder:
     """A new folder for one run of an engine, and the limits on what it writes there.
 
@@ -203,7 +194,11 @@ class Folder:
 
     def __exit__(self, *_: object) -> None:
         """Removes it, but for folders that are in it, which are removed at the end."""
-        remove_flat(self.path)
+        for path, _status in entries_of(self.path):
+            with contextlib.suppress(OSError):
+                os.unlink(path)
+        with contextlib.suppress(OSError):
+            os.rmdir(self.path)
 
     def place(self, name: str) -> str:
         """Returns the path of a file in it."""

@@ -6,14 +6,13 @@ import contextlib
 import os
 import resource
 import signal
-import stat
 import subprocess
 import threading
 import time
 from collections.abc import Callable, Collection, Iterator, Sequence
 from typing import TYPE_CHECKING, Any, Generic, NamedTuple, Protocol, TypeVar
 
-from aigprove.processes.files import Sealed, Word, entries_of, remove_flat
+from aigprove.processes.files import Sealed, Word
 
 if TYPE_CHECKING:
     from aigprove.processes.files import Folder
@@ -89,9 +88,14 @@ def bury(kept: Collection[int] = ()) -> None:
 
 def remove(path: str) -> None:
     """Removes a folder, however deep it is and whatever its rights."""
-    for folder in [it for it, status in entries_of(path) if stat.S_ISDIR(status.st_mode)]:
-        remove_flat(folder)
-    remove_flat(path)
+    # It gives up if a folder is too deep, and passes over one without rights.
+    with contextlib.suppress(RecursionError):
+        for folder, folders, files in os.walk(path, topdown=False):
+            for name in folders + files:
+                with contextlib.suppress(OSError):
+                    os.unlink(os.path.join(folder, name))
+            with contextlib.suppress(OSError):
+                os.rmdir(folder)
     for words in [["rm", "-rf"], ["chmod", "-R", "u+rwx"], ["rm", "-rf"]]:
         if os.path.lexists(path):
             subprocess.run([*words, "--", path], stdin=subprocess.DEVNULL,
