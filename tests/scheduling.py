@@ -12,11 +12,10 @@ import threading
 import time
 
 import harness
-from aigprove.asking import limited
 from aigprove.circuits.aiger import Fault
 from aigprove.processes import groups, scheduler
 from aigprove.processes.files import Folder
-from aigprove.processes.scheduler import Scheduler, Scope, Stopped
+from aigprove.processes.scheduler import Scheduler, Scope, Stopped, limited
 
 LONG = ["sleep", "60"]
 

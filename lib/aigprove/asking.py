@@ -1,11 +1,8 @@
 """What a command line asks for: one question after the other, or a table."""
 import contextlib
-import math
 import os
 import signal
-import time
 from collections.abc import Iterator, Sequence
-from types import FrameType
 
 from aigprove.designs.front_ends import LIVE, TranslationTimeout
 from aigprove.engines.inquiry import Inquiry
@@ -14,7 +11,7 @@ from aigprove.options.options import Options
 from aigprove.output.messages import say
 from aigprove.processes.files import new_folder
 from aigprove.processes.groups import adopt, bury, remove
-from aigprove.processes.scheduler import Scheduler, Scope, Stopped
+from aigprove.processes.scheduler import Scheduler, Scope, Stopped, limited
 from aigprove.questions.bad_states import BadStates, Property
 from aigprove.questions.checker import Checker
 from aigprove.questions.target import Target
@@ -22,9 +19,6 @@ from aigprove.questions.target import Target
 # What guesses what corresponds in two files, and what asks about that.
 GUESSING = ["guesses", "scorr", "merging"]
 SIGNALS = [signal.SIGTERM, signal.SIGHUP, signal.SIGINT, signal.SIGALRM]
-# How many seconds a question has to end by itself once its time is over, and after how many that
-# is tried again.
-LATE, AGAIN = 0.15, 0.01
 
 
 def targets(options: Options, above: str, checker: Checker) -> Iterator[Target]:
@@ -108,30 +102,6 @@ def tell_late(why: str) -> None:
     """Says what was still at it when the time was over, if that is known."""
     if why:
         say(why)
-
-
-def end_late(_: int, frame: FrameType | None) -> None:
-    """Has the main thread give up what it does.
-
-    What is raised while an object is dropped is passed over by Python: then it is raised later."""
-    while frame:
-        if frame.f_code.co_name == "__del__":
-            signal.setitimer(signal.ITIMER_REAL, AGAIN)
-            return
-        frame = frame.f_back
-    raise Stopped
-
-
-@contextlib.contextmanager
-def limited(deadline: float) -> Iterator[None]:
-    """Gives up what the main thread does soon after a deadline, whatever that is."""
-    signal.signal(signal.SIGALRM, end_late)
-    if deadline < math.inf:
-        signal.setitimer(signal.ITIMER_REAL, max(deadline - time.monotonic(), 0) + LATE)
-    try:
-        yield
-    finally:
-        signal.setitimer(signal.ITIMER_REAL, 0)
 
 
 @contextlib.contextmanager

@@ -23,7 +23,7 @@ from aigprove.output.report import PropertyAnswer, Report
 from aigprove.output.signals import Signals
 from aigprove.processes.files import write
 from aigprove.processes.groups import BackgroundCall
-from aigprove.processes.scheduler import Stopped
+from aigprove.processes.scheduler import Stopped, limited
 from aigprove.questions.assumptions import SECONDS, Assumptions
 from aigprove.questions.bad_states import BadStates, Covers, FileAbove
 from aigprove.questions.checker import Checker, header_of
@@ -105,12 +105,12 @@ class Table:
         try:
             self.gather()
             self.ask(self.parts if not self.options.gather else [])
-            self.look_at_assumptions()
         except Stopped:
-            self.checker.task.scheduler.stop()
+            pass
         except (KeyboardInterrupt, SystemExit):
             self.print()
             raise
+        self.look_at_assumptions()
         self.print()
         self.write()
         is_known = any(answer.is_answered or answer.steps for answer in self.answers)
@@ -169,9 +169,13 @@ class Table:
                 raise Fault("cadical is not installed")
             asked = Solver(solver.words, self.checker, self.above, solver.takes_turns)
             least = max(answer.steps for answer in self.answers)
-            found.look(asked, least, time.monotonic() + SECONDS)
+            # That takes a moment more once the time is over.
+            with limited(max(self.options.deadline, time.monotonic() + 2 * SECONDS)):
+                found.look(asked, least, time.monotonic() + SECONDS)
         except Fault as why:
             say(f"assumptions: {why}")
+        except Stopped:
+            self.checker.task.scope.stop()
         return found
 
     def print(self) -> None:

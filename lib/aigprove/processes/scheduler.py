@@ -2,11 +2,13 @@
 from __future__ import annotations
 
 import contextlib
+import math
 import os
 import signal
 import threading
 import time
 from collections.abc import Callable, Collection, Iterable, Iterator
+from types import FrameType
 from typing import TYPE_CHECKING, Any, TypeVar
 
 from aigprove.circuits.aiger import Fault
@@ -26,6 +28,9 @@ ALONE = 1
 # An engine that showed a step may run half as long as others once it showed none for so many
 # seconds of its own.
 LATELY, SLOWED = 2, 2
+# How many seconds the main thread has to end by itself once its time is over, and after how many
+# that is tried again.
+LATE, AGAIN = 0.15, 0.01
 
 
 class Stopped(Exception):
@@ -286,6 +291,30 @@ class Scheduler:
         with self.lock:
             self.is_stopped = True
         self.end(lambda _: True)
+
+
+def end_late(_: int, frame: FrameType | None) -> None:
+    """Has the main thread give up what it does.
+
+    What is raised while an object is dropped is passed over by Python: then it is raised later."""
+    while frame:
+        if frame.f_code.co_name == "__del__":
+            signal.setitimer(signal.ITIMER_REAL, AGAIN)
+            return
+        frame = frame.f_back
+    raise Stopped
+
+
+@contextlib.contextmanager
+def limited(deadline: float) -> Iterator[None]:
+    """Gives up what the main thread does soon after a deadline, whatever that is."""
+    signal.signal(signal.SIGALRM, end_late)
+    if deadline < math.inf:
+        signal.setitimer(signal.ITIMER_REAL, max(deadline - time.monotonic(), 0) + LATE)
+    try:
+        yield
+    finally:
+        signal.setitimer(signal.ITIMER_REAL, 0)
 
 
 def for_each(items: Iterable[S], jobs: int, call: Callable[[S], T]) -> list[T]:
