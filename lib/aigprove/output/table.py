@@ -168,10 +168,10 @@ class Table:
             if not solver.words:
                 raise Fault("cadical is not installed")
             asked = Solver(solver.words, self.checker, self.above, solver.takes_turns)
-            least = max(answer.steps for answer in self.answers)
-            # That takes a moment more once the time is over.
-            with limited(max(self.options.deadline, time.monotonic() + 2 * SECONDS)):
-                found.look(asked, least, time.monotonic() + SECONDS)
+            now, least = time.monotonic(), max(answer.steps for answer in self.answers)
+            # Once the time is over that takes a moment more, from the first step on.
+            with limited(max(self.options.deadline, now + 3 * SECONDS)):
+                found.look(asked, least if now < self.options.deadline else 0, now + SECONDS)
         except Fault as why:
             say(f"assumptions: {why}")
         except Stopped:
