@@ -11,6 +11,8 @@ from typing import Any, cast
 
 KINDS = {"i": "inputs", "l": "latches", "o": "outputs", "b": "bads", "c": "constraints"}
 LIMIT = 1 << 24
+# How many lines of numbers are read at once.
+BLOCK = 1 << 14
 COMMENT = re.compile(rb"c(?![0-9])")
 # The groups of a number in binary form behind which there is another.
 GOES_ON = bytes(range(128, 256))
@@ -80,15 +82,29 @@ class Lines:
         return self.numbers(1, 1)[0]
 
     def rows(self, count: int, width: int) -> list[tuple[int, ...]]:
-        """Returns so many lines of so many numbers each, which are read at once."""
-        *lines, rest = self.data[self.place:].split(b"\n", count)
-        words = b" ".join(lines).split(b" ") if lines else []
+        """Returns so many lines of so many numbers each.
+
+        Many are read at once, but not all: meanwhile no other thread of Python's goes on."""
+        found: list[tuple[int, ...]] = []
+        while len(found) < count:
+            found += self.block(min(count - len(found), BLOCK), width)
+        return found
+
+    def block(self, count: int, width: int) -> list[tuple[int, ...]]:
+        """Returns so many such lines, which are read at once."""
+        end = self.place - 1
+        for _ in range(count):
+            end = self.data.find(b"\n", end + 1)
+            if end < 0:
+                break
+        lines = self.data[self.place:end].split(b"\n") if end >= 0 else []
+        words = b" ".join(lines).split(b" ")
         are_rows = len(lines) == count and all(line.count(b" ") == width - 1 for line in lines)
         if are_rows and all(map(bytes.isdigit, words)):
             # A number may have more digits than any that a file has.
             with contextlib.suppress(ValueError):
                 found = list(zip(*[iter(list(map(int, words)))] * width))
-                self.place = len(self.data) - len(rest)
+                self.place = end + 1
                 return found
         return [tuple(self.numbers(width, width)) for _ in range(count)]
 
@@ -198,9 +214,9 @@ class Circuit:
             raise Fault(f"bad literal of an input, latch or gate in {self.what}")
         used = [*self.nexts, *self.outputs, *self.bads,
                 *self.constraints, *itertools.chain.from_iterable(row[1:] for row in self.gates)]
-        if unknown := set(used) - known - {literal | 1 for literal in known}:
-            raise Fault(
-                f"literal {next(filter(unknown.__contains__, used))} is not defined in {self.what}")
+        unknown = next((literal for literal in used if literal & ~1 not in known), None)
+        if unknown is not None:
+            raise Fault(f"literal {unknown} is not defined in {self.what}")
 
     def put_in_order(self) -> None:
         """Puts each gate behind those that it stands on, if that isn't so."""
