@@ -196,6 +196,18 @@ def deadlines(tally, made):
     time.sleep(1)
     with limited(float("inf")):
         printed = task.output(["echo", "here"])[1]
+    ended = []
+    try:
+        # What is short is ended first.
+        with limited(time.monotonic() + 0.2):
+            with scheduler.unlimited():
+                time.sleep(1)
+                ended.append("what is short")
+            time.sleep(8)
+            ended.append("what is long")
+    except Stopped:
+        ended.append("given up")
+    tally.wants("what may be ended", ["what is short", "given up"], ended)
     tally.wants("in time", (0, "here\n"), (status, printed))
     tally.wants("each", [1, 4, 9], scheduler.for_each([1, 2, 3], 2, lambda it: it * it))
     given = []

@@ -66,14 +66,17 @@ def asked(options: Options, above: str, checker: Checker) -> int:
                 break
             scope.stop()
     except (TranslationTimeout, Stopped) as why:
-        if not statuses:
+        # What the question at hand has printed counts.
+        ended = next((it.printer.status for it in inquiries[len(statuses):]), None)
+        if ended is None and not statuses:
             raise
-        # The assertions have their answer, and the time was over while the file of what is asked
-        # next was made.
         end_all(checker.task.scheduler)
-        tell_late(str(why))
-        print("nothing was shown of liveness")
-        statuses.append(OPEN)
+        if ended is None:
+            # The assertions have their answer, and the time was over while the file of what is
+            # asked next was made, or while that was asked.
+            tell_late(str(why))
+            print("nothing was shown of liveness")
+        statuses.append(OPEN if ended is None else ended)
     finally:
         end_evidence(inquiries)
     return next((it for it in (UNSAFE, FAILED, OPEN) if it in statuses), SAFE)

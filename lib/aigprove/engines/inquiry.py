@@ -9,7 +9,7 @@ from aigprove.engines.portfolio import Portfolio, engines_of
 from aigprove.options.options import Options
 from aigprove.output.messages import say, show_progress
 from aigprove.output.printer import Printer
-from aigprove.processes.scheduler import Scope, Stopped
+from aigprove.processes.scheduler import Scope, Stopped, unlimited
 from aigprove.questions.checker import Checker
 from aigprove.questions.target import Target
 
@@ -46,6 +46,9 @@ class Inquiry:
         for line in self.source.about():
             self.printer.print_line(line)
         status = self.answer()
+        if status is None:
+            with unlimited():
+                return self.end_open()
         if status != SAFE:
             self.printer.tell_no_certificate(
                 "the answer is a run" if status == UNSAFE else "there is no answer")
@@ -62,8 +65,17 @@ class Inquiry:
         self.printer.print_report(status)
         return OPEN
 
-    def answer(self) -> int:
-        """Runs the engines, and returns the exit status of their answer."""
+    def end_open(self) -> int:
+        """Prints what was shown where there is no answer, and returns the exit status."""
+        self.printer.print_open()
+        self.printer.tell_no_certificate("there is no answer")
+        if self.options.aiger:
+            self.printer.print_report(OPEN)
+        self.printer.status = OPEN
+        return OPEN
+
+    def answer(self) -> int | None:
+        """Runs the engines, and returns the exit status of their answer, or None without one."""
         portfolio = Portfolio(self.problem, self.scope, self.board, self.printer)
         engines = engines_of(self.problem)
         try:
@@ -76,9 +88,6 @@ class Inquiry:
         show_progress()
         if status is None and len(portfolio.failed) == len(engines):
             return FAILED
-        if status is None:
-            self.printer.print_open()
-            return OPEN
         return status
 
     def status_of(self, found: Assumptions | Endless) -> int:

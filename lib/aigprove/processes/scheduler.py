@@ -317,6 +317,16 @@ def limited(deadline: float) -> Iterator[None]:
         signal.setitimer(signal.ITIMER_REAL, 0)
 
 
+@contextlib.contextmanager
+def unlimited() -> Iterator[None]:
+    """Lets the main thread end what is short, though its time may be over by then."""
+    left, _ = signal.setitimer(signal.ITIMER_REAL, 0)
+    try:
+        yield
+    finally:
+        signal.setitimer(signal.ITIMER_REAL, left)
+
+
 def for_each(items: Iterable[S], jobs: int, call: Callable[[S], T]) -> list[T]:
     """Returns what a call returns for each of some items, so many at once.
 
