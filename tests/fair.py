@@ -29,10 +29,10 @@ ASSERTION = re.compile(r"(always @(\*|\(posedge clk\)) )?(if \(\w+\) )?\w+: (ass
 LATE = """import sys
 sys.path.insert(0, sys.argv.pop(1))
 from aigprove import command
-from aigprove.designs import yosys
+from aigprove.designs.front_ends import TranslationTimeout
 from aigprove.questions import justice
 def late(*_):
-    raise yosys.TranslationTimeout("yosys is late")
+    raise TranslationTimeout("yosys is late")
 justice.lives = late
 command.main()
 """

@@ -43,6 +43,11 @@ class TranslationTimeout(Fault):
     """The time was over before there was a file to ask about."""
 
 
+def overdue(path: str) -> TranslationTimeout:
+    """Returns the fault of a design that wasn't read in time."""
+    return TranslationTimeout(f"{path}: yosys was still at it when the time was over")
+
+
 class File(NamedTuple):
     """A file of a design: its path and its bytes."""
 

@@ -14,7 +14,7 @@ from collections.abc import Callable, Iterator, Mapping, Sequence
 from typing import Any
 
 from aigprove.circuits.aiger import Fault
-from aigprove.designs.front_ends import File, TranslationTimeout
+from aigprove.designs.front_ends import File, overdue
 from aigprove.designs.netlist import Json
 from aigprove.designs.rtlil import Statement, parse
 from aigprove.designs.texts import EXPANDED
@@ -197,8 +197,7 @@ class Run:
     def __init__(self, yosys: Yosys, words: Words, **streams: Any) -> None:
         self.yosys, self.out = yosys, in_memory()
         self.outcome: tuple[int, bytes] | None = None
-        self.late = TranslationTimeout(
-            f"{yosys.path}: yosys was still at it when the time was over")
+        self.late = overdue(yosys.path)
         if yosys.deadline <= time.monotonic():
             raise self.late
         self.group = yosys.task.start(words, stdout=self.out, stderr=subprocess.STDOUT, **streams)

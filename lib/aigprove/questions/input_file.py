@@ -5,10 +5,12 @@ from collections.abc import Iterator, Sequence
 from typing import TYPE_CHECKING
 
 from aigprove.circuits.aiger import Circuit, Fault, Header, Lines, Symbols, decoded, encoded
-from aigprove.designs.front_ends import FRONTS, STANDARD_INPUT, VERILOG, File, kind_of
+from aigprove.designs.front_ends import (
+    FRONTS, STANDARD_INPUT, VERILOG, File, kind_of, overdue)
 from aigprove.options.options import DesignOptions
 from aigprove.output.messages import say
 from aigprove.processes.files import Sealed, new_folder, sealed
+from aigprove.processes.scheduler import Stopped, Task
 from aigprove.questions.checker import Checker
 
 if TYPE_CHECKING:
@@ -38,13 +40,11 @@ class InputFile:
         self.check_kinds(paths, options)
         self.design: Design | None = None
         if self.kinds[0]:
-            # The patterns that these modules have take long to compile: they are imported if
-            # there is a design, as here.
-            from aigprove.designs import verilog
-
-            folder = new_folder(above, "design")
             files = [File(path, file.data()) for path, file in zip(paths, self.given)]
-            self.design = verilog.Design(files, options, folder, checker.task)
+            try:
+                self.design = design_of(files, options, new_folder(above, "design"), checker.task)
+            except Stopped:
+                raise overdue(paths[0]) from None
         self.take(sealed(self.design.file, checker.limit) if self.design else self.given[0])
         self.say_left_out(options)
 
@@ -139,6 +139,14 @@ class InputFile:
                 evidence.put(f"{self.name[:-4]}{f'-{i}' if i else ''}{kind}", file)
             elif file is not self.file:
                 evidence.put(f"{self.stem}-given.{form(file.line())}", file)
+
+
+def design_of(files: Sequence[File], options: DesignOptions, folder: str, task: Task) -> Design:
+    """Returns the design that yosys reads from files."""
+    # The patterns that this module has take long to compile: it is imported if there is a design.
+    from aigprove.designs import verilog
+
+    return verilog.Design(files, options, folder, task)
 
 
 def counted(number: int, one: str, many: str | None = None) -> list[str]:
