@@ -3,13 +3,17 @@
 
 A file of GATES (100000) random gates is read, written, given STEPS (5) further steps, and its
 clauses are taken. Each call is compared with what the command that does the same takes for that: a
-ratio above 1.05 fails, but for files and texts, which calls copy from memory to memory; a program's
-are copied by the system, which isn't counted. A call of `aig_circuit_new_and_node` fails where it
-takes more than 150 instructions beside the library's own function.
+ratio above 1.05 fails. A call of `aig_circuit_new_and_node` fails where it takes more than 150
+instructions beside the library's own function.
+
+Files and texts are copied from memory to memory, where the system copies a program's. The C library
+copies large pieces by one instruction that callgrind counts once for each byte: so it is told here
+to copy by others.
 """
 from __future__ import annotations
 
 import dataclasses
+import os
 import re
 import subprocess
 import sys
@@ -21,6 +25,7 @@ from measuring import HERE, heads, make, row, run
 from harness import EDIT, TESTS, TOOL, TOP, new_folder, parser
 
 MOST_RATIO, MOST_BESIDE = 1.05, 150
+COPYING = {"GLIBC_TUNABLES": "glibc.cpu.x86_rep_movsb_threshold=1000000000"}
 COUNT = 20_000
 CALL, FUNCTION = "aig_circuit_new_and_node", "aig_build::build::new_and_node"
 # The instructions of a function, with those of what it calls, and its name but for its types.
@@ -37,7 +42,6 @@ class Compared:
     command: list[str]
     functions: list[str]
     less: bool = False
-    is_bounded: bool = True
 
     def cost_of_command(self, costs: dict[str, int]) -> int:
         found = [costs[name] for name in self.functions]
@@ -52,8 +56,8 @@ def compared(path: str, steps: str) -> list[Compared]:
     clauses = ["aig_tool_commands::clauses::print_clauses"]
     text, unroll, cnf = ["text", path], ["unroll", path, steps], ["cnf", path, "0"]
     return [
-        Compared("from_aiger", text, [TOOL, *text], reading, is_bounded=False),
-        Compared("write_text", text, [TOOL, *text], printing, is_bounded=False),
+        Compared("from_aiger", text, [TOOL, *text], reading),
+        Compared("write_text", text, [TOOL, *text], printing),
         Compared("unroll_to", unroll, [EDIT, *unroll], unrolling, less=True),
         Compared("cnf", cnf, [TOOL, *cnf], clauses),
     ]
@@ -80,6 +84,7 @@ def main() -> bool:
     words = parser(__doc__, GATES=100_000, STEPS=5)
     words.add_argument("--library", metavar="FOLDER", type=Path, help="where libaig.a is")
     given, failed = words.parse_args(), False
+    os.environ.update(COPYING)
     with new_folder() as folder:
         if not given.library:
             subprocess.run([TESTS / "archive.py", folder], check=True)
@@ -90,7 +95,7 @@ def main() -> bool:
             mine = costs([program, *it.words], folder)[f"aig_circuit_{it.call}"]
             its = it.cost_of_command(costs(it.command, folder))
             row(it.call, mine, its, f"{mine / its:.3f}")
-            failed |= it.is_bounded and mine > MOST_RATIO * its
+            failed |= mine > MOST_RATIO * its
         found = costs([program, "and", str(COUNT)], folder)
     mine, its = found[CALL] // COUNT, found[FUNCTION] // COUNT
     row("new_and_node", mine, its, f"{mine - its} beside")

@@ -1,6 +1,7 @@
-/* Circuits in memory: a part of aig.h, which includes it.
+/* Circuits in memory, and simulations of them: a part of aig.h, which includes it.
  *
- * A handle holds a circuit, or nothing. It begins as AIG_NONE, and `aig_circuit_free` lets go what it holds. A circuit is a list of nodes:
+ * A handle holds a circuit, or a simulation, or nothing. It begins as AIG_NONE, and `aig_circuit_free` or `aig_simulation_free` lets go
+ * what it holds. A circuit is a list of nodes:
  * node 0 is false, and each other node is a leaf or the and of two edges to nodes before it. A node's number is its place. An edge is
  * given by its literal: twice its node's number, and 1 more where it is inverted. So 0 is false, and 1 is true. Inputs and the leaves of
  * latches are leaves, and distinct; a leaf that is neither is free. Beside them stand four lists of property edges, a list of justice
@@ -11,7 +12,8 @@
  *   moved: then the old place isn't used again.
  * - Two handles of one call are two. A handle isn't in memory that the call reads or writes otherwise.
  * - One call at a time is made on a handle, also where it only reads: no two threads read one circuit at once. `aig_circuit_clone` makes
- *   a second circuit for a second thread. A handle may go from thread to thread, by a lock or a join.
+ *   a second circuit for a second thread, and `aig_simulation_clone` a second simulation. A handle may go from thread to thread, by a lock
+ *   or a join.
  * - A `bool` is 0 or 1.
  *
  * Every call but those that free gives a status. AIG_EMPTY comes first, where a handle holds nothing; `aig_circuit_new`,
@@ -40,6 +42,11 @@ extern "C" {
 typedef struct aig_circuit {
   void *held;
 } aig_circuit_t;
+
+/* A simulation of a circuit of its own in three values, or none. */
+typedef struct aig_simulation {
+  void *held;
+} aig_simulation_t;
 
 /* What a handle begins as. */
 #define AIG_NONE \
@@ -283,7 +290,7 @@ uint32_t aig_circuit_strash(aig_circuit_t *circuit);
 uint32_t aig_circuit_cnf(aig_circuit_t *circuit, bool optimize, int32_t *out, size_t out_len, size_t *needed);
 
 /* ---- three values: a value is AIG_FALSE, AIG_TRUE or AIG_UNKNOWN, or the status is AIG_VALUE. AIG_COUNT, of values that are more or
- * fewer than the inputs or latches, comes before it. The state of a simulation is the caller's: a value for each latch, in order. */
+ * fewer than the inputs or latches, comes before it. A state is a value for each latch, in order. */
 
 /* The value of each node where inputs and latches have these values, in order. Free leaves are unknown. */
 uint32_t aig_circuit_ternary_simulate(aig_circuit_t *circuit, const uint8_t *inputs, size_t inputs_len, const uint8_t *latchs,
@@ -293,6 +300,36 @@ uint32_t aig_circuit_ternary_simulate(aig_circuit_t *circuit, const uint8_t *inp
  * of the next edges, in place of `state`. After AIG_SMALL the state is as it was. */
 uint32_t aig_circuit_simulate(aig_circuit_t *circuit, uint8_t *state, size_t state_len, const uint8_t *inputs, size_t inputs_len,
                               uint8_t *out, size_t out_len, size_t *needed);
+
+/* ---- simulations: each has a circuit, the state in which its next step begins, and the values of the nodes in its last step */
+
+/* Puts a simulation of a copy of a circuit, which begins in this state, into a handle, in place of what that held. Later changes of the
+ * circuit don't change the simulation. */
+uint32_t aig_simulation_new(aig_circuit_t *circuit, const uint8_t *state, size_t state_len, aig_simulation_t *simulation);
+
+/* Lets go what a handle holds, if anything. It holds nothing then. */
+void aig_simulation_free(aig_simulation_t *simulation);
+
+/* Puts a copy of a simulation into another handle, in place of what that held. */
+uint32_t aig_simulation_clone(aig_simulation_t *simulation, aig_simulation_t *to);
+
+/* Values one step with these inputs, and moves the state to that which follows. */
+uint32_t aig_simulation_simulate(aig_simulation_t *simulation, const uint8_t *inputs, size_t inputs_len);
+
+/* Whether a step was valued and the node of an edge is there. */
+uint32_t aig_simulation_has_value(aig_simulation_t *simulation, uint32_t edge, bool *answer);
+
+/* The value of an edge in the last step. AIG_RANGE says that there is none (`aig_simulation_has_value`). */
+uint32_t aig_simulation_value(aig_simulation_t *simulation, uint32_t edge, uint8_t *value);
+
+/* The state in which the next step begins. */
+uint32_t aig_simulation_state(aig_simulation_t *simulation, uint8_t *out, size_t out_len, size_t *needed);
+
+/* Values `steps` steps one after another, gives the value of an edge in each, and moves the state. `inputs` has the values of the first
+ * step's inputs, then those of the second's and so on. AIG_RANGE, of the edge, comes before AIG_COUNT. After AIG_SMALL the simulation is as
+ * it was. Of no steps it changes nothing. */
+uint32_t aig_simulation_simulate_all(aig_simulation_t *simulation, const uint8_t *inputs, size_t inputs_len, size_t steps, uint32_t edge,
+                                     uint8_t *out, size_t out_len, size_t *needed);
 
 #ifdef __cplusplus
 }

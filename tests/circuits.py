@@ -41,10 +41,16 @@ CHUNK, SECONDS = 100, 1000
 # The calls that ask for no memory, whatever they are given.
 QUIET = set("""
 free set_next set_init set_node set_edge clear_edges clear_justice num_nodes inputs num_justice
-has_node has_edge is_free_leaf is_closed fits_lits admits begins_with
+has_node has_edge is_free_leaf is_closed fits_lits admits begins_with simulation_free
+simulation_has_value simulation_value
 """.split())
 SANITIZERS = ["-fsanitize=address,undefined", "-fno-sanitize-recover=all"]
 REFUSING = [f"-Wl,--wrap={name}" for name in ("malloc", "realloc", "calloc", "free")]
+
+
+def short(name: str) -> str:
+    """Returns a call's name, without `circuit_` where it begins so."""
+    return name.removeprefix("circuit_")
 
 
 class Library:
@@ -96,8 +102,8 @@ class Scripts:
         if status or said:
             ended = f"the driver ended with {status}: {said.decode(errors='replace')[-3000:]}"
             found.insert(0, ended)
-        pairs = (line.partition(": circuit_") for line in printed)
-        refusals = collections.Counter({name: int(count) for count, _, name in pairs})
+        pairs = (line.partition(": ") for line in printed)
+        refusals = collections.Counter({short(name): int(count) for count, _, name in pairs})
         return Ended(found[:3], refusals)
 
 
@@ -247,7 +253,7 @@ def main() -> int:
         with tally.test("scripts"):
             refusals = check_scripts(tally, Scripts(library, given.SEED, words), given.SCRIPTS)
         if given.memory:
-            asking = {name.removeprefix("circuit_") for name in library.calls} - QUIET
+            asking = set(map(short, library.calls)) - QUIET
             with tally.test("calls that ask for memory"):
                 tally.wants("calls that ask for memory", sorted(asking), sorted(refusals))
         with tally.test("programs"):

@@ -62,6 +62,7 @@ void __wrap_free(void *at) {
 /* ---- what the handles hold */
 
 static aig_circuit_t circuits[HANDLES];
+static aig_simulation_t simulations[HANDLES];
 static uint32_t sum;
 
 static uint32_t table[256];
@@ -135,6 +136,21 @@ static void add_names(aig_circuit_t *circuit) {
   }
 }
 
+/* Adds the state of a simulation, and the values of its nodes. */
+static void add_simulation(aig_simulation_t *simulation) {
+  static uint8_t items[MOST_ITEMS];
+  size_t count = 0;
+  bool has_value = false;
+  if (!answers(aig_simulation_state(simulation, items, MOST_ITEMS, &count))) return;
+  add(count);
+  for (size_t i = 0; i < count; i++) add(items[i]);
+  for (count = 0; answers(aig_simulation_has_value(simulation, 2 * count, &has_value)) && has_value; count++) {
+    answers(aig_simulation_value(simulation, 2 * count, &items[count]));
+  }
+  add(count);
+  for (size_t i = 0; i < count; i++) add(items[i]);
+}
+
 /* The sum of all that is held: a CRC of each handle's number and contents. */
 static uint32_t sum_of_all(void) {
   size_t count;
@@ -145,6 +161,7 @@ static uint32_t sum_of_all(void) {
       add_nodes(&circuits[i]), add_properties(&circuits[i]), add_names(&circuits[i]);
     }
   }
+  for (int i = 0; i < HANDLES; i++) add(i), add_simulation(&simulations[i]);
   return ~sum;
 }
 
@@ -183,6 +200,7 @@ static size_t next_number(void) {
 }
 
 static aig_circuit_t *next_circuit(void) { return &circuits[next_number() % HANDLES]; }
+static aig_simulation_t *next_simulation(void) { return &simulations[next_number() % HANDLES]; }
 
 static void put(struct slice *slice, enum kind kind, size_t number) {
   void *at = (uint8_t *)slice->at + slice->len++ * SIZES[kind];
@@ -315,6 +333,7 @@ static char *line_of(uint32_t status) {
 /* How many refusals each call has seen, and copies of what the handles held before a call. */
 static long seen[sizeof CALLS / sizeof *CALLS];
 static aig_circuit_t copies[HANDLES];
+static aig_simulation_t simulation_copies[HANDLES];
 
 static void copy_all(void) {
   refused = 0;
@@ -322,6 +341,8 @@ static void copy_all(void) {
   for (int i = 0; i < HANDLES; i++) {
     aig_circuit_free(&copies[i]);
     answers(aig_circuit_clone(&circuits[i], &copies[i]));
+    aig_simulation_free(&simulation_copies[i]);
+    answers(aig_simulation_clone(&simulations[i], &simulation_copies[i]));
   }
   calls = false;
 }
@@ -333,6 +354,9 @@ static void restore_all(void) {
     aig_circuit_free(&circuits[i]);
     circuits[i] = copies[i];
     copies[i] = (aig_circuit_t)AIG_NONE;
+    aig_simulation_free(&simulations[i]);
+    simulations[i] = simulation_copies[i];
+    simulation_copies[i] = (aig_simulation_t)AIG_NONE;
   }
   calls = false;
   copy_all();
@@ -367,6 +391,8 @@ static void begin_anew(void) {
   for (int i = 0; i < HANDLES; i++) {
     aig_circuit_free(&circuits[i]);
     aig_circuit_free(&copies[i]);
+    aig_simulation_free(&simulations[i]);
+    aig_simulation_free(&simulation_copies[i]);
   }
   calls = false;
   printf("script %ld\n", taken);

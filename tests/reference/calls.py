@@ -5,7 +5,8 @@ from collections.abc import Callable, Iterable, Sequence
 
 from reference import clauses, files, transforms
 from reference.circuit import PROPERTIES, Circuit, Latch
-from reference.handles import Handle, Refused, latch_row, node_row
+from reference.handles import Handle, Refused, Running, latch_row, node_row
+from reference.simulation import Simulation
 
 MOST_LIMIT = 2**31
 # What a call tells: a number, items as they are printed, or nothing.
@@ -391,6 +392,76 @@ def circuit_simulate(handle: Handle, state: bytes, inputs: bytes, room: int) -> 
     values = ternary(circuit, inputs, state)
     told, after = spelled(room, bytes(values)), bytes(clauses.following(circuit, values))
     return f"{spelled(len(after), after)} {told}"
+
+
+# ---- simulations
+
+
+def require_values(values: bytes, count: int) -> None:
+    require(len(values) == count, "COUNT")
+    require(max(values, default=0) <= clauses.UNKNOWN, "VALUE")
+
+
+@call
+def simulation_new(handle: Handle, state: bytes, to: Running) -> Told:
+    circuit = handle.circuit()
+    require_values(state, len(circuit.latches))
+    to.held = Simulation(circuit.copy(), list(state))
+    return None
+
+
+@call
+def simulation_free(running: Running) -> Told:
+    running.held = None
+    return None
+
+
+@call
+def simulation_clone(running: Running, to: Running) -> Told:
+    to.held = running.simulation().copy()
+    return None
+
+
+@call
+def simulation_simulate(running: Running, inputs: bytes) -> Told:
+    simulation = running.simulation()
+    require_values(inputs, len(simulation.circuit.inputs))
+    simulation.step(inputs)
+    return None
+
+
+@call
+def simulation_has_value(running: Running, edge: int) -> Told:
+    return int(running.simulation().has_value(edge))
+
+
+@call
+def simulation_value(running: Running, edge: int) -> Told:
+    simulation = running.simulation()
+    require(simulation.has_value(edge), "RANGE")
+    return f"{simulation.value(edge):02x}"
+
+
+@call
+def simulation_state(running: Running, room: int) -> Told:
+    return spelled(room, bytes(running.simulation().state))
+
+
+@call
+def simulation_simulate_all(
+    running: Running, inputs: bytes, steps: int, edge: int, room: int
+) -> Told:
+    simulation = running.simulation()
+    count = len(simulation.circuit.inputs)
+    require_edges(simulation.circuit, edge)
+    require_values(inputs, steps * count)
+    if steps > room:
+        raise Refused("SMALL", steps)
+    values = []
+    for step in range(steps):
+        simulation.step(inputs[step * count:(step + 1) * count])
+        values.append(simulation.value(edge))
+    return spelled(room, bytes(values))
 
 
 # ---- those that are made of functions of a circuit

@@ -7,6 +7,7 @@ import zlib
 from collections.abc import Sequence
 
 from reference.circuit import PROPERTIES, Circuit, Latch
+from reference.simulation import Simulation
 
 
 class Refused(Exception):
@@ -28,6 +29,26 @@ class Handle:
         if self.held is None:
             raise Refused("EMPTY")
         return self.held
+
+    def words(self) -> list[int]:
+        return circuit_words(self.held) if self.held else []
+
+
+@dataclasses.dataclass
+class Running:
+    """A handle, by its number, of a simulation or of none."""
+
+    place: int
+    held: Simulation | None = None
+
+    def simulation(self) -> Simulation:
+        if self.held is None:
+            raise Refused("EMPTY")
+        return self.held
+
+    def words(self) -> list[int]:
+        held = self.held
+        return [*counted(held.state), *counted(held.values)] if held else []
 
 
 # ---- what is held, as numbers
@@ -66,10 +87,9 @@ def circuit_words(circuit: Circuit) -> list[int]:
     return found
 
 
-def words(handle: Handle) -> bytes:
+def words(handle: Handle | Running) -> bytes:
     """Returns the contents of a handle with its number, as the driver sums them up."""
-    held = circuit_words(handle.held) if handle.held else []
-    return array.array("I", [handle.place, *held]).tobytes()
+    return array.array("I", [handle.place, *handle.words()]).tobytes()
 
 
 class Handles:
@@ -79,15 +99,21 @@ class Handles:
 
     def __init__(self) -> None:
         self.all = list(map(Handle, range(self.COUNT)))
-        self.words = list(map(words, self.all))
+        self.simulations = list(map(Running, range(self.COUNT)))
+        self.words = [*map(words, self.all), *map(words, self.simulations)]
 
     def held(self) -> list[Handle]:
         """Returns the handles that hold a circuit."""
         return [handle for handle in self.all if handle.held]
 
-    def note(self, handle: Handle) -> None:
+    def running(self) -> list[Running]:
+        """Returns the handles that hold a simulation."""
+        return [handle for handle in self.simulations if handle.held]
+
+    def note(self, handle: Handle | Running) -> None:
         """Notes that a handle may hold something else."""
-        self.words[handle.place] = words(handle)
+        first = self.COUNT if isinstance(handle, Running) else 0
+        self.words[first + handle.place] = words(handle)
 
     def sum(self) -> int:
         return zlib.crc32(b"".join(self.words))

@@ -7,18 +7,19 @@ from collections.abc import Iterator
 from pathlib import Path
 
 DECLARED = re.compile(
-    r"^(uint32_t|void) aig_(circuit_\w+)\(([^)]*)\);", re.MULTILINE
+    r"^(uint32_t|void) aig_((?:circuit|simulation)_\w+)\(([^)]*)\);", re.MULTILINE
 )
 STATUS = re.compile(r"^  AIG_(\w+) = (\d+),", re.MULTILINE)
 PARAMETER = re.compile(r"(const )?(\w+) (\*?)(\w+)")
 KINDS = {"bool": "BOOL", "uint8_t": "U8", "uint32_t": "U32", "int32_t": "I32", "size_t": "SIZE"}
 KINDS |= {"aig_node_t": "NODE", "aig_latch_t": "LATCH"}
+HANDLES = {"aig_circuit_t": "circuit", "aig_simulation_t": "simulation"}
 
 
 @dataclasses.dataclass(frozen=True)
 class Parameter:
-    """What a call is given: a `circuit`, a `number`, a `slice`, a `state` that it changes, memory
-    for an answer, which is `out`, or a place for what is `told`."""
+    """What a call is given: a `circuit`, a `simulation`, a `number`, a `slice`, a `state` that it
+    changes, memory for an answer, which is `out`, or a place for what is `told`."""
 
     role: str
     type: str
@@ -47,10 +48,10 @@ def parameters(text: str) -> Iterator[Parameter]:
     """Yields the parameters of a declaration, each pointer with its length as one."""
     found = [PARAMETER.fullmatch(word.strip()) for word in re.sub(r"\s+", " ", text).split(",")]
     for constant, kind, pointer, name in [word.groups() for word in found if word]:
-        if kind == "aig_circuit_t":
-            yield Parameter("circuit", kind, name)
+        if kind in HANDLES:
+            yield Parameter(HANDLES[kind], kind, name)
         elif pointer and name != "needed":
-            role = name if name in ("out", "state") else "slice" if constant else "told"
+            role = "slice" if constant else name if name in ("out", "state") else "told"
             yield Parameter(role, kind, name)
         elif not pointer and not name.endswith("_len"):
             yield Parameter("number", kind, name)
@@ -73,6 +74,7 @@ def statuses(folder: Path) -> dict[str, int]:
 
 TAKEN = {
     "circuit": "aig_circuit_t *{name} = next_circuit();",
+    "simulation": "aig_simulation_t *{name} = next_simulation();",
     "number": "{type} {name} = next_number();",
     "slice": "struct slice {name} = next_slice({kind});",
     "state": "struct out *{name} = next_state({kind});",

@@ -8,7 +8,7 @@ from collections.abc import Callable
 from reference import files
 from reference.calls import CALLS, Told
 from reference.circuit import PROPERTIES, Circuit
-from reference.handles import Handle, Handles, Refused
+from reference.handles import Handle, Handles, Refused, Running
 from reference.header import Call, Parameter
 
 # How often a call is made, where it isn't once.
@@ -39,6 +39,11 @@ WEIGHTS = {
     "circuit_simulate": 3,
     "circuit_new": 0.5,
     "circuit_free": 0.3,
+    "simulation_new": 8,
+    "simulation_simulate": 8,
+    "simulation_simulate_all": 5,
+    "simulation_value": 5,
+    "simulation_free": 0.3,
 }
 # Calls that need no circuit.
 BEGINNINGS = ["circuit_new", "circuit_from_aiger"]
@@ -55,12 +60,12 @@ PLACES: dict[str, Callable[[Circuit, int], int]] = {
     "circuit_set_edge": lambda circuit, number: len(circuit.properties(PROPERTIES[number % 4])),
 }
 # What a call is given for a parameter.
-Word = Handle | int | bytes | list[int]
+Word = Handle | Running | int | bytes | list[int]
 
 
 def said(word: Word) -> str:
     """Returns a word as the driver reads it."""
-    if isinstance(word, Handle):
+    if isinstance(word, (Handle, Running)):
         return str(word.place)
     if isinstance(word, int):
         return str(word)
@@ -96,7 +101,7 @@ class Script:
         except Refused as refusal:
             answers, status = [*map(str, refusal.told)], refusal.status
         for word in words:
-            if isinstance(word, Handle):
+            if isinstance(word, (Handle, Running)):
                 self.handles.note(word)
         wanted = " ".join([str(self.statuses[status]), *answers, f"#{self.handles.sum():08x}"])
         self.lines.append(Line(" ".join([call.name, *map(said, words)]), wanted))
@@ -115,9 +120,11 @@ class Writer:
     ) -> None:
         self.rng, self.calls, self.script, self.new_file = rng, calls, script, new_file
         self.handles = script.handles
-        # The circuit that the next call is about, and the numbers that it is given so far.
+        # The circuit that the next call is about, the numbers that it is given so far, and of how
+        # many steps it is.
         self.circuit = Circuit()
         self.numbers: dict[str, int] = {}
+        self.steps = 1
 
     # ---- what a call is given
 
@@ -158,6 +165,8 @@ class Writer:
             return rng.randrange(4)
         if name == "list":
             return rng.choice([4, GREATEST_EDGE]) if self.is_rare() else rng.randrange(4)
+        if name == "steps":
+            return rng.choice([0, 7, GREATEST_NUMBER]) if self.is_rare() else self.steps
         if name == "limit":
             return rng.choice([0, 1, 2, 5, 8, 12, 2**31 + 1, *[300] * 40])
         if name == "i":
@@ -188,18 +197,34 @@ class Writer:
         if name == "roots":
             return [self.below(len(self.circuit.nodes)) for _ in range(count)]
         if name == "inputs":
-            return self.values(len(self.circuit.inputs))
+            return self.values(self.steps * len(self.circuit.inputs))
         if name in ("latchs", "state"):
             return self.values(len(self.circuit.latches))
         return self.file() if name == "file" else self.rng.choice(NAMES)
 
-    def handle(self, but: Handle | None = None) -> Handle:
+    def handle(self, but: Handle | Running | None = None) -> Handle:
         """Returns a handle, or another than one: most often one that holds something."""
         others = [handle for handle in self.handles.all if handle is not but]
         held = [handle for handle in others if handle.held]
         return self.rng.choice(held if held and not self.is_rare() else others)
 
-    def second(self, name: str, first: Handle) -> Handle:
+    def running(self, but: Handle | Running | None = None) -> Running:
+        """Returns a handle of simulations, or another than one, in the same way."""
+        others = [running for running in self.handles.simulations if running is not but]
+        held = [running for running in others if running.held]
+        return self.rng.choice(held if held and not self.is_rare() else others)
+
+    def first(self, call: Call) -> Handle | Running:
+        """Returns a call's first handle, and notes the circuit that it is about."""
+        if call.parameters[0].role == "simulation":
+            running = self.running()
+            self.circuit = running.held.circuit if running.held else Circuit()
+            return running
+        handle = self.handle()
+        self.circuit = handle.held or Circuit()
+        return handle
+
+    def second(self, name: str, first: Handle | Running) -> Handle:
         """Returns a call's second handle: for `from` most often one with whose circuit the first
         one's begins."""
         if name == "from" and not self.is_rare():
@@ -217,10 +242,12 @@ class Writer:
             needed = refusal.told[0] if refusal.told else 0
         return max(0, needed + self.rng.choice([-1, 0, 0, 0, 1, 5, -needed]))
 
-    def word(self, call: Call, parameter: Parameter, first: Handle) -> Word:
+    def word(self, call: Call, parameter: Parameter, first: Handle | Running) -> Word:
         """Returns the word of a parameter but for handles and room that come first and last."""
         if parameter.role == "circuit":
             return self.second(parameter.name, first)
+        if parameter.role == "simulation":
+            return self.running(first)
         if parameter.role != "number":
             return self.slice(parameter.name)
         number = self.numbers[parameter.name] = self.number(call, parameter)
@@ -228,9 +255,11 @@ class Writer:
 
     def words(self, call: Call) -> list[Word]:
         """Returns what a call is given."""
-        first = self.handle()
+        first = self.first(call)
         words: list[Word] = [first]
-        self.circuit, self.numbers = first.held or Circuit(), {}
+        self.numbers, self.steps = {}, 1
+        if call.name == "simulation_simulate_all":
+            self.steps = self.rng.randrange(4)
         for parameter in call.words()[1:]:
             is_room = parameter.role == "out"
             words.append(self.room(call, words) if is_room else self.word(call, parameter, first))
@@ -271,6 +300,8 @@ class Writer:
         is_small = max(sizes, default=0) <= MOST_NODES
         least = sum(it.role == "circuit" and it.name != "to" for it in call.parameters)
         is_made = len(sizes) >= least or self.is_rare()
+        if call.parameters[0].role == "simulation":
+            is_made = bool(self.handles.running()) or self.is_rare()
         return call.name in BEGINNINGS or (is_made and (is_small or call.name not in GROWING))
 
     def fill(self, count: int) -> Script:

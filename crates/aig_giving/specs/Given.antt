@@ -2,7 +2,7 @@
 -- Items that are put into the caller's memory.
 use Rattle.std.specs.Prelude.{◌≡◌, ℕ, ◌<◌, ◌++◌, ◌⊎◌, List, length, drop, Result, Ok, Err, Vec}
 use Rattle.std.specs.declared.alloc.Global.{Global}
-use Rattle.aig_giving.specs.declared.buffer.TheConstants.{DONE, SMALL}
+use Rattle.aig_giving.specs.declared.status.TheConstants.{DONE, SMALL}
 
 -- Where the items fit, they are at the front of the caller's memory, and what follows stays. Else
 -- all of it stays. Either way their count is told.

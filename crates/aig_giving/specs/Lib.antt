@@ -1,4 +1,5 @@
 pub mod Edges
 pub mod Given
 pub mod Numbers
+pub mod Statuses
 pub mod Values

@@ -3,10 +3,15 @@
 ghost use Rattle.std.specs.Prelude.{◌≡◌};
 ghost use Rattle.aig_giving.specs.Given.{GivesMade, IsGiven};
 
-/// The call has done what it is for.
-pub const DONE: u32 = 0;
-/// The answer doesn't fit the caller's memory.
-pub const SMALL: u32 = 1;
+use crate::status::{DONE, SMALL};
+
+/// Tells a value at its place.
+pub fn tell<T: Copy>(value: T, place: &mut T) -> u32
+    ensures { (result ≡ DONE) × (place.new ≡ value) }
+{
+    *place = value;
+    DONE
+}
 
 /// Copies items to the front of the caller's memory, where they fit, and says how many there are.
 pub fn give<T: Copy>(items: &[T], out: &mut [T], needed: &mut usize) -> u32

@@ -18,7 +18,7 @@ pub fn number_of(lit: Lit) -> i32
 }
 
 /// Appends the numbers of a clause, and a 0.
-pub fn push_clause(numbers: &mut Vec<i32>, clause: &[Lit]) -> Result<(), MemoryError>
+fn push_clause(numbers: &mut Vec<i32>, clause: &[Lit]) -> Result<(), MemoryError>
     requires { All (λ lit. variable_of lit < 2 ^ 31 - 1) clause.now }
     ensures { OnOk result (numbers.new.items ≡ numbers.old.items ++ clause_numbers clause.now) }
 {
@@ -42,7 +42,7 @@ pub fn push_list(numbers: &mut Vec<i32>, clauses: &LitVvec) -> Result<(), Memory
 }
 
 /// Appends the numbers of each clause of each variable.
-fn push_lists(numbers: &mut Vec<i32>, clauses: &DagCnf) -> Result<(), MemoryError>
+pub fn push_lists(numbers: &mut Vec<i32>, clauses: &DagCnf) -> Result<(), MemoryError>
     requires { length clauses.now < 2 ^ 31 }
     ensures { OnOk result (numbers.new.items ≡ numbers.old.items ++ flat_map (flat_map
         clause_numbers) clauses.now) }

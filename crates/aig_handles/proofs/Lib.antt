@@ -2,4 +2,5 @@ pub mod Marks
 pub mod Places
 pub mod Refusals
 pub mod Room
+pub mod Rows
 pub mod Taking

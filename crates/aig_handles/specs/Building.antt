@@ -9,7 +9,8 @@ use Rattle.aig_circuit.specs.Circuit.{Circuit, IsFree, IsInRange, IsLeaf}
 use Rattle.aig_giving.specs.Edges.{edge_of}
 use Rattle.aig_handles.specs.declared.building.NewLeaf.{NewLeaf}
 use Rattle.aig_handles.specs.declared.building.NewLeaf.TheVariants.{Free, Input, Latch}
-use Rattle.aig_handles.specs.declared.status.TheConstants.{FULL, MEMORY, NOT_FREE, RANGE}
+use Rattle.aig_giving.specs.declared.status.TheConstants.{MEMORY}
+use Rattle.aig_handles.specs.declared.status.TheConstants.{FULL, NOT_FREE, RANGE}
 use Rattle.aig_handles.specs.Handles.{ChangesOr, DoneOr, HasRoom, Unmet}
 
 -- the edge of a literal, if there is one

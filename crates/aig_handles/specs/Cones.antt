@@ -10,7 +10,8 @@ use Rattle.aig_cnf.specs.Cnf.{FixesRoots, HasClauses, NodeValuesSatisfy}
 use Rattle.aig_giving.specs.Given.{GivesOr}
 use Rattle.aig_giving.specs.Numbers.{clause_numbers}
 use Rattle.aig_handles.specs.Handles.{HasRoom, Unmet}
-use Rattle.aig_handles.specs.declared.status.TheConstants.{FULL, MEMORY, RANGE}
+use Rattle.aig_giving.specs.declared.status.TheConstants.{MEMORY}
+use Rattle.aig_handles.specs.declared.status.TheConstants.{FULL, RANGE}
 
 -- what the edges reach along operands is marked
 abbrev pub MarksFanin : List AigEdge → Circuit → List Bool → Type 0

@@ -13,7 +13,8 @@ use Rattle.aig_handles.specs.declared.connectives.Connective.{Connective}
 use Rattle.aig_handles.specs.declared.connectives.Connective.TheVariants as two
 use Rattle.aig_handles.specs.declared.connectives.ListConnective.{ListConnective}
 use Rattle.aig_handles.specs.declared.connectives.ListConnective.TheVariants as many
-use Rattle.aig_handles.specs.declared.status.TheConstants.{FULL, MEMORY, RANGE}
+use Rattle.aig_giving.specs.declared.status.TheConstants.{MEMORY}
+use Rattle.aig_handles.specs.declared.status.TheConstants.{FULL, RANGE}
 use Rattle.aig_handles.specs.Handles.{DoneOr, HasRoom, Unmet}
 
 -- what is added to join two edges: one gate, or none where they fold

@@ -10,35 +10,11 @@ use Rattle.aig_format.specs.File.{File}
 use Rattle.aig_format.specs.Fits.{Accepts}
 use Rattle.aig_reader.specs.Verdicts.{Accepted, IsSettled, IsVerdictOn, verdict_of}
 use Rattle.aig_reader.specs.declared.error.ReadError.{ReadError}
-use Rattle.aig_reader.specs.declared.error.ReadError.TheVariants as reading
-use Rattle.aig_reader.specs.declared.error.Section.{Section}
-use Rattle.aig_reader.specs.declared.error.Section.TheVariants as section
 use Rattle.aig_giving.specs.Given.{GivesOr}
+use Rattle.aig_giving.specs.Statuses.{read_status}
 use Rattle.aig_handles.specs.Handles.{Unmet}
-use Rattle.aig_handles.specs.declared.status.TheConstants.{FREE_LEAF, INITIAL_EDGE, LINE_FEED, MEMORY, RANGE, UNWRITABLE}
-
--- the sections, in the order of the header's counts from 1.9 on, and the gates at last
-abbrev pub section_number : Section → ℕ
-section_number section.Inputs = 0
-section_number section.Latches = 1
-section_number section.Outputs = 2
-section_number section.Bads = 3
-section_number section.Constraints = 4
-section_number section.Justice = 5
-section_number section.Fairness = 6
-section_number section.Gates = 7
-
--- a file is refused; no path is opened, and no read of memory fails
-abbrev pub read_status : ReadError → ℕ
-read_status reading.Memory = MEMORY
-read_status reading.Stream = MEMORY
-read_status reading.Open = 10
-read_status reading.Header = 10
-read_status reading.TooMany = 11
-read_status reading.Delta = 12
-read_status reading.Name = 13
-read_status (reading.Syntax s) = 16 + section_number s
-read_status (reading.Literal s) = 24 + section_number s
+use Rattle.aig_giving.specs.declared.status.TheConstants.{MEMORY, UNWRITABLE}
+use Rattle.aig_handles.specs.declared.status.TheConstants.{FREE_LEAF, INITIAL_EDGE, LINE_FEED, RANGE}
 
 -- a circuit isn't written; no file is made, and a write to memory stops only for want of memory
 abbrev pub write_status : WriteError → ℕ

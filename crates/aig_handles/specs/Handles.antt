@@ -1,27 +1,51 @@
 -- Part of what is promised.
--- What a call does to the circuit that a handle holds.
+-- What a call does to the circuit or the simulation that a handle holds.
 use Rattle.std.specs.Prelude.{◌≡◌, ◌≤◌, ◌+◌, ◌^◌, ◌⊎◌, ℕ, length, Option, Some, None}
 use Rattle.aig_circuit.specs.Circuit.{Circuit}
-use Rattle.aig_giving.specs.declared.buffer.TheConstants.{DONE}
+use Rattle.aig_giving.specs.declared.status.TheConstants.{DONE, EMPTY}
 use Rattle.aig_held.specs.declared.handle.Handle.{Handle}
+use Rattle.aig_held.specs.declared.held.Held.{Held}
+use Rattle.aig_held.specs.declared.held.Held.TheVariants as kinds
 use Rattle.aig_held.specs.Kept.{held}
-use Rattle.aig_handles.specs.declared.status.TheConstants.{EMPTY}
+use Rattle.aig_ternary.specs.Ternary.{Simulation}
 
--- the circuit that a handle holds, if any
+-- what a handle holds, if anything
+abbrev pub held_in : Handle → Option Held
+held_in h = held h.at h.value
+
+-- a circuit, where it is one, or a simulation
+abbrev pub circuit_of : Option Held → Option Circuit
+circuit_of None = None
+circuit_of (Some (kinds.Circuit c)) = Some c
+circuit_of (Some (kinds.Simulation s)) = None
+
+abbrev pub simulation_of_held : Option Held → Option Simulation
+simulation_of_held None = None
+simulation_of_held (Some (kinds.Circuit c)) = None
+simulation_of_held (Some (kinds.Simulation s)) = Some s
+
+-- the circuit that a handle holds, if it holds one
 abbrev pub circuit_in : Handle → Option Circuit
-circuit_in h = held h.at h.circuit
+circuit_in h = circuit_of (held_in h)
 
--- Without a circuit a call says so, and leaves all as it was. Else there is one before and after,
--- and of these two the rest is told.
-abbrev pub OnCircuit : Option Circuit → Option Circuit → ℕ → Type 0
-    → (Circuit → Circuit → Type 0) → Type 0
-OnCircuit None new status Kept Does = (status ≡ EMPTY) × (new ≡ None) × Kept
-OnCircuit (Some old) None status Kept Does = ⊥
-OnCircuit (Some old) (Some new) status Kept Does = Does old new
+-- Without a value a call says so, and leaves all as it was. Else there is one before and after, and
+-- of these two the rest is told.
+abbrev pub OnValue : {A : Type 0} → Option A → Option A → ℕ → Type 0 → (A → A → Type 0) → Type 0
+OnValue None new status Kept Does = (status ≡ EMPTY) × Kept
+OnValue (Some old) None status Kept Does = ⊥
+OnValue (Some old) (Some new) status Kept Does = Does old new
 
 -- so it is of the circuit that a handle holds
 abbrev pub OnHeld : Handle → Handle → ℕ → Type 0 → (Circuit → Circuit → Type 0) → Type 0
-OnHeld old new = OnCircuit (circuit_in old) (circuit_in new)
+OnHeld old new status Kept =
+    OnValue (circuit_in old) (circuit_in new) status ((held_in new ≡ held_in old) × Kept)
+
+-- or of the simulation
+abbrev pub OnSimulation : Handle → Handle → ℕ → Type 0 → (Simulation → Simulation → Type 0)
+    → Type 0
+OnSimulation old new status Kept =
+    OnValue (simulation_of_held (held_in old)) (simulation_of_held (held_in new)) status
+    ((held_in new ≡ held_in old) × Kept)
 
 -- it is done, and this holds; or this stays as it was, and the status is that of a refusal
 abbrev pub DoneOr : ℕ → Type 0 → Type 0 → Type 0 → Type 0

@@ -6,7 +6,8 @@ use Rattle.aig_circuit.specs.declared.prop_list.PropList.{PropList}
 use Rattle.aig_circuit.specs.declared.prop_list.PropList.TheVariants.{Outputs, Bads, Constraints, Fairness}
 use Rattle.aig_circuit.specs.Circuit.{Circuit, IsInRange}
 use Rattle.aig_circuit.specs.PropLists.{edges_of, with_edges}
-use Rattle.aig_handles.specs.declared.status.TheConstants.{MEMORY, RANGE}
+use Rattle.aig_giving.specs.declared.status.TheConstants.{MEMORY}
+use Rattle.aig_handles.specs.declared.status.TheConstants.{RANGE}
 use Rattle.aig_handles.specs.Handles.{ChangesOr, Unmet}
 
 -- the list of a number, if there is one

@@ -5,7 +5,7 @@ use Rattle.aig_circuit.specs.declared.edge.AigEdge.{AigEdge}
 use Rattle.aig_circuit.specs.declared.node.AigNode.{AigNode}
 use Rattle.aig_circuit.specs.Circuit.{Circuit, IsClosed, IsFree, IsInRange, IsLeaf}
 use Rattle.aig_circuit.specs.Node.{Admits, and_of}
-use Rattle.aig_giving.specs.declared.buffer.TheConstants.{DONE}
+use Rattle.aig_giving.specs.declared.status.TheConstants.{DONE}
 use Rattle.aig_handles.specs.declared.questions.Question.{Question}
 use Rattle.aig_handles.specs.declared.questions.Question.TheVariants.{HasNode, HasEdge, IsFreeLeaf, IsClosedNow, FitsLits, AdmitsGate}
 

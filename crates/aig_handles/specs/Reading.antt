@@ -12,10 +12,10 @@ use Rattle.aig_giving.specs.declared.lists.GivenLatch.{GivenLatch}
 use Rattle.aig_giving.specs.declared.lists.GivenNode.{GivenNode}
 use Rattle.aig_giving.specs.Edges.{given_latch, given_node}
 use Rattle.aig_giving.specs.Given.{GivesOr}
-use Rattle.aig_giving.specs.declared.buffer.TheConstants.{DONE}
+use Rattle.aig_giving.specs.declared.status.TheConstants.{DONE, MEMORY}
 use Rattle.aig_handles.specs.Handles.{ChangesOr, HasRoom, Unmet}
 use Rattle.aig_handles.specs.Lists.{list_of}
-use Rattle.aig_handles.specs.declared.status.TheConstants.{FULL, MEMORY, NOT_UTF8, NO_NAME, RANGE}
+use Rattle.aig_handles.specs.declared.status.TheConstants.{FULL, NOT_UTF8, NO_NAME, RANGE}
 
 -- a count is told
 abbrev pub Counts : (Circuit → ℕ) → ℕ → ℕ → Circuit → Circuit → Type 0

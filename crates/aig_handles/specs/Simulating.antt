@@ -1,17 +1,17 @@
 -- Part of what is promised.
--- Simulation in three values, whose state is the caller's.
-use Rattle.std.specs.Prelude.{◌≡◌, ◌<◌, ◌⊎◌, ℕ, List, All, length, map, slice_index_or}
+-- Simulation in three values, whose state is the caller's or a handle's.
+use Rattle.std.specs.Prelude.{◌≡◌, ◌*◌, ◌<◌, ◌⊎◌, ◌∷◌, ℕ, zero, suc, List, [], All, Some, drop, length, map, take}
 use Rattle.aig_base.specs.declared.logic.three.Lbool.{Lbool}
-use Rattle.aig_base.specs.declared.logic.three.Lbool.TheVariants.{FALSE}
-use Rattle.aig_base.specs.Three.{lbool_not_if}
 use Rattle.aig_circuit.specs.declared.edge.AigEdge.{AigEdge}
-use Rattle.aig_circuit.specs.Circuit.{Circuit}
-use Rattle.aig_giving.specs.Given.{IsGiven}
+use Rattle.aig_circuit.specs.Circuit.{Circuit, IsInRange}
+use Rattle.aig_giving.specs.Given.{GivesOr, IsGiven}
 use Rattle.aig_giving.specs.Values.{value_number, value_of}
-use Rattle.aig_giving.specs.declared.buffer.TheConstants.{DONE, SMALL}
-use Rattle.aig_handles.specs.Handles.{Unmet}
-use Rattle.aig_handles.specs.declared.status.TheConstants.{COUNT, MEMORY, VALUE}
-use Rattle.aig_ternary.specs.Ternary.{Simulation, given_values, simulation_of, stepped, three_values}
+use Rattle.aig_giving.specs.declared.status.TheConstants.{DONE, MEMORY, SMALL}
+use Rattle.aig_held.specs.declared.handle.Handle.{Handle}
+use Rattle.aig_held.specs.declared.held.Held.TheVariants as kinds
+use Rattle.aig_handles.specs.Handles.{ChangesOr, DoneOr, Unmet, held_in}
+use Rattle.aig_handles.specs.declared.status.TheConstants.{COUNT, RANGE, VALUE}
+use Rattle.aig_ternary.specs.Ternary.{HasValue, Simulation, given_values, simulation_of, stepped, stepped_all, three_values, value_in, values_in}
 
 -- the values of numbers
 abbrev pub values_of : List ℕ → List Lbool
@@ -23,32 +23,37 @@ AreNodeValues inputs latchs c numbers =
     numbers
     ≡ map value_number (three_values c (given_values c (values_of inputs) (values_of latchs)))
 
--- there are other counts of values, one is none of the three, or memory was refused
+-- there is another count of values, or one is none of the three, or memory was refused
+abbrev pub IsRefused : ℕ → Type 0 → Type 0 → Type 0
+IsRefused status Counted Valued =
+    Unmet COUNT status Counted ⊎ Unmet VALUE status Valued ⊎ (status ≡ MEMORY)
+
+-- so of inputs and latches, of a state, and of inputs
 abbrev pub HasNoValues : List ℕ → List ℕ → ℕ → Circuit → Type 0
 HasNoValues inputs latchs status c =
-    Unmet COUNT status
-    ((length inputs ≡ length c.inputs) × (length latchs ≡ length c.latchs))
-    ⊎ Unmet VALUE status (All (λ n. n < 3) inputs × All (λ n. n < 3) latchs) ⊎ (status ≡ MEMORY)
+    IsRefused status ((length inputs ≡ length c.inputs) × (length latchs ≡ length c.latchs))
+    (All (λ n. n < 3) inputs × All (λ n. n < 3) latchs)
+
+abbrev pub HasNoState : List ℕ → ℕ → Circuit → Type 0
+HasNoState state status c =
+    IsRefused status (length state ≡ length c.latchs) (All (λ n. n < 3) state)
+
+abbrev pub HasNoStep : List ℕ → ℕ → ℕ → Circuit → Type 0
+HasNoStep inputs steps status c =
+    IsRefused status (length inputs ≡ steps * length c.inputs) (All (λ n. n < 3) inputs)
+
+-- ---- the caller's state
 
 -- the simulation that begins in this state, after a step with these inputs
 abbrev pub after_step : Circuit → List ℕ → List ℕ → Simulation
 after_step c state inputs = stepped (simulation_of c (values_of state)) (values_of inputs)
-
--- the number of the value of an edge, by the values of the nodes
-abbrev pub edge_number : List Lbool → AigEdge → ℕ
-edge_number values e =
-    value_number (lbool_not_if e.compl (slice_index_or values e.node_id FALSE))
-
--- the state that follows: the numbers of the values of the next edges in the last step
-abbrev pub following : Simulation → List ℕ
-following s = map (λ latch. edge_number s.values latch.next) s.circuit.latchs
 
 -- the values of the step are given, and the state that follows; where they don't fit, the state
 -- stays
 pub record GivesStep (c : Circuit) (inputs before after : List ℕ) (status : ℕ) (old new : List ℕ)
     (needed : ℕ) : Type 0 where
   pub values : IsGiven status (map value_number (after_step c before inputs).values) old new needed
-  pub whole : status ≡ DONE → after ≡ following (after_step c before inputs)
+  pub whole : status ≡ DONE → after ≡ map value_number (after_step c before inputs).state
   pub short : status ≡ SMALL → after ≡ before
 
 -- so it is; or nothing is given, and the status is that of a refusal
@@ -56,3 +61,55 @@ abbrev pub StepsOr : List ℕ → List ℕ → List ℕ → ℕ → List ℕ →
 StepsOr inputs before after status old new had needed c =
     GivesStep c inputs before after status old new needed
     ⊎ ((after ≡ before) × (new ≡ old) × (needed ≡ had) × HasNoValues inputs before status c)
+
+-- ---- a handle's state
+
+-- the handle holds the simulation that begins in this state; or it holds what it held
+abbrev pub BeginsOr : List ℕ → ℕ → Handle → Handle → Circuit → Type 0
+BeginsOr state status old new c =
+    DoneOr status (held_in new ≡ Some (kinds.Simulation (simulation_of c (values_of state))))
+    (new ≡ old) (HasNoState state status c)
+
+-- the simulation is moved by a step with these inputs; or it stays
+abbrev pub SimulatesOr : List ℕ → ℕ → Simulation → Simulation → Type 0
+SimulatesOr inputs status old new =
+    DoneOr status (new ≡ stepped old (values_of inputs)) (new ≡ old)
+    (HasNoStep inputs 1 status old.circuit)
+
+-- the value of an edge in the last step is told; or there is none
+abbrev pub TellsValueOr : AigEdge → ℕ → ℕ → ℕ → Simulation → Type 0
+TellsValueOr e status before value s =
+    DoneOr status (value ≡ value_number (value_in s e)) (value ≡ before)
+    (Unmet RANGE status (HasValue s e))
+
+-- the state in which the next step begins is given
+abbrev pub GivesState : ℕ → List ℕ → List ℕ → ℕ → ℕ → Simulation → Type 0
+GivesState status old new before needed s =
+    GivesOr (λ items. items ≡ map value_number s.state) status old new before needed
+    (status ≡ MEMORY)
+
+-- the lists of so many steps, of which each has so many values
+abbrev pub rows_of : ℕ → ℕ → List Lbool → List (List Lbool)
+rows_of count zero values = []
+rows_of count (suc steps) values = take count values ∷ rows_of count steps (drop count values)
+
+-- the inputs of each of so many steps of a circuit
+abbrev pub steps_of : Circuit → ℕ → List ℕ → List (List Lbool)
+steps_of c steps inputs = rows_of (length c.inputs) steps (values_of inputs)
+
+-- the values of an edge in steps with these inputs are given, and the simulation is moved; where
+-- they don't fit, it stays
+pub record GivesSteps (e : AigEdge) (inputs : List (List Lbool)) (before after : Simulation)
+    (status : ℕ) (old new : List ℕ) (needed : ℕ) : Type 0 where
+  pub values : IsGiven status (map value_number (values_in e before inputs)) old new needed
+  pub whole : status ≡ DONE → after ≡ stepped_all before inputs
+  pub short : status ≡ SMALL → after ≡ before
+
+-- so it is; or nothing is given, and the status is that of a refusal
+abbrev pub AllStepsOr : AigEdge → List ℕ → ℕ → ℕ → List ℕ → List ℕ → ℕ → ℕ → Simulation
+    → Simulation → Type 0
+AllStepsOr e inputs steps status old new had needed before after =
+    GivesSteps e (steps_of before.circuit steps inputs) before after status old new needed
+    ⊎ ((after ≡ before) × (new ≡ old) × (needed ≡ had)
+    × (Unmet RANGE status (IsInRange before.circuit.nodes e)
+    ⊎ HasNoStep inputs steps status before.circuit))

@@ -17,7 +17,8 @@ use Rattle.aig_strash.specs.Strash.{KeepsRepresentatives, MergesTrees, strashed}
 use Rattle.aig_unroll.specs.Unroll.{AddsExactly, UnrollsBySteps, UnrollsOnce, UnrollsTo}
 use Rattle.aig_handles.specs.Handles.{ChangesOr, HasRoom, Unmet}
 use Rattle.aig_handles.specs.Questions.{gate_of}
-use Rattle.aig_handles.specs.declared.status.TheConstants.{FREE_LEAF, FULL, MEMORY, NOT_ADMITTED, NO_BEGINNING, RANGE}
+use Rattle.aig_giving.specs.declared.status.TheConstants.{MEMORY}
+use Rattle.aig_handles.specs.declared.status.TheConstants.{FREE_LEAF, FULL, NOT_ADMITTED, NO_BEGINNING, RANGE}
 
 -- a gate has these operands
 abbrev pub SetsGateOr : ℕ → AigEdge → AigEdge → ℕ → Circuit → Circuit → Type 0

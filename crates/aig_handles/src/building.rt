@@ -6,11 +6,11 @@ ghost use Rattle.aig_handles.specs.Building.{AddsInputOr, AddsLeafOr, HasEdgesOf
 ghost use Rattle.aig_handles.specs.Handles.{OnHeld};
 
 use crate::checks::{MOST_NODES, has_edges};
-use crate::status::{EMPTY, FULL, MEMORY, NOT_FREE, RANGE};
+use crate::status::{FULL, NOT_FREE, RANGE};
 use aig::{Aig, AigEdge};
 use aig_base::MemoryError;
-use aig_giving::{DONE, edge_of};
-use aig_held::Handle;
+use aig_giving::{DONE, EMPTY, MEMORY, edge_of};
+use aig_held::{Handle, Held};
 use std::alloc::Global;
 
 /// What a new leaf becomes.

@@ -3,13 +3,13 @@
 ghost use Rattle.std.specs.Prelude.{◌≡◌, IfErr, IfOk};
 ghost use Rattle.aig_giving.specs.Given.{GivesOr};
 ghost use Rattle.aig_handles.specs.Cones.{AreClauses, HasNoNumbers};
-ghost use Rattle.aig_handles.specs.Handles.{OnHeld, circuit_in};
+ghost use Rattle.aig_handles.specs.Handles.{OnHeld, held_in};
 
 use crate::checks::MOST_NODES;
-use crate::status::{EMPTY, FULL, MEMORY};
+use crate::status::FULL;
 use aig::Aig;
-use aig_giving::{clause_numbers, give_made};
-use aig_held::Handle;
+use aig_giving::{EMPTY, MEMORY, clause_numbers, give_made};
+use aig_held::{Handle, Held};
 use std::alloc::Global;
 
 /// The numbers of the clauses, or the status that says why there are none.
@@ -52,7 +52,7 @@ pub extern "C" fn aig_circuit_cnf(
     out: &mut [i32],
     needed: &mut usize,
 ) -> u32
-    ensures kept { circuit_in circuit.new ≡ circuit_in circuit.old }
+    ensures kept { held_in circuit.new ≡ held_in circuit.old }
     ensures clauses { OnHeld circuit.old circuit.new result
         ((out.new ≡ out.old) × (needed.new ≡ needed.old)) (λ c _. GivesOr (AreClauses optimize c)
         result out.old out.new needed.old needed.new

@@ -5,14 +5,14 @@ ghost use Rattle.aig_circuit.specs.Marks.{IsMarked};
 ghost use Rattle.aig_giving.specs.Edges.{edge_of};
 ghost use Rattle.aig_giving.specs.Given.{GivesOr};
 ghost use Rattle.aig_handles.specs.Cones.{HasNoCone, HasNoFanin, MarksCone, MarksFanin};
-ghost use Rattle.aig_handles.specs.Handles.{OnHeld, circuit_in};
+ghost use Rattle.aig_handles.specs.Handles.{OnHeld, held_in};
 
 use crate::checks::have_edges;
-use crate::status::{EMPTY, MEMORY, RANGE};
+use crate::status::RANGE;
 use aig::Aig;
 use aig_base::MemoryError;
-use aig_giving::{edges_of, give_made};
-use aig_held::Handle;
+use aig_giving::{EMPTY, MEMORY, edges_of, give_made};
+use aig_held::{Handle, Held};
 use std::alloc::Global;
 use std::collections::HashSet;
 
@@ -51,7 +51,7 @@ pub extern "C" fn aig_circuit_fanin_logic_cone(
     out: &mut [bool],
     needed: &mut usize,
 ) -> u32
-    ensures kept { circuit_in circuit.new ≡ circuit_in circuit.old }
+    ensures kept { held_in circuit.new ≡ held_in circuit.old }
     ensures marks { OnHeld circuit.old circuit.new result
         ((out.new ≡ out.old) × (needed.new ≡ needed.old)) (λ c _. GivesOr (MarksFanin (map
         edge_of edges.now) c) result out.old out.new needed.old
@@ -127,7 +127,7 @@ pub extern "C" fn aig_circuit_coi(
     out: &mut [bool],
     needed: &mut usize,
 ) -> u32
-    ensures kept { circuit_in circuit.new ≡ circuit_in circuit.old }
+    ensures kept { held_in circuit.new ≡ held_in circuit.old }
     ensures marks { OnHeld circuit.old circuit.new result
         ((out.new ≡ out.old) × (needed.new ≡ needed.old)) (λ c _. GivesOr (MarksCone roots.now c)
         result out.old out.new needed.old needed.new (HasNoCone roots.now result c)) }

@@ -4,14 +4,14 @@ ghost use Rattle.std.specs.Prelude.{◌≡◌, ◌≤◌, ◌<◌, ◌+◌, ◌^
 ghost use Rattle.aig_circuit.specs.Circuit.{IsInRange};
 ghost use Rattle.aig_giving.specs.Edges.{edge_of};
 ghost use Rattle.aig_handles.specs.Connectives.{Joins, JoinsAll, JoinsAllOr, JoinsOr, NeedsMemory, gates};
-ghost use Rattle.aig_handles.specs.Handles.{OnHeld, circuit_in};
+ghost use Rattle.aig_handles.specs.Handles.{OnHeld, held_in};
 
 use crate::checks::{MOST_NODES, have_edges};
-use crate::status::{EMPTY, FULL, MEMORY, RANGE};
+use crate::status::{FULL, RANGE};
 use aig::{Aig, AigEdge};
 use aig_base::MemoryError;
-use aig_giving::{DONE, edge_of, edges_of, literal_of};
-use aig_held::Handle;
+use aig_giving::{DONE, EMPTY, MEMORY, edge_of, edges_of, literal_of};
+use aig_held::{Handle, Held};
 use std::alloc::Global;
 
 /// How two edges are joined.

@@ -1,16 +1,17 @@
 //! Circuits that are read from bytes, and their written forms.
 
-ghost use Rattle.std.specs.Prelude.{◌≡◌, ◌≤◌, ◌^◌, IfErr, IfOk, IfSome, Ok, Some};
+ghost use Rattle.std.specs.Prelude.{◌≡◌, ◌≤◌, ◌^◌, IfErr, IfOk, IsSomeAnd, Ok, Some};
 ghost use Rattle.aig.specs.Writing.{IsVerdictOf};
 ghost use Rattle.aig_format.specs.Circuit.{binary_of, text_of};
 ghost use Rattle.aig_handles.specs.Files.{GivesForm, IsReadFrom, IsUnwritten, RefusesFile};
-ghost use Rattle.aig_handles.specs.Handles.{DoneOr, OnHeld, circuit_in};
+ghost use Rattle.aig_handles.specs.Handles.{DoneOr, OnHeld, circuit_in, held_in};
 
-use crate::status::{EMPTY, MEMORY, RANGE, of_read, of_write};
+use crate::handles::put_held;
+use crate::status::{RANGE, of_write};
 use aig::Aig;
 use aig_base::{FromRead, Source, ToWrite};
-use aig_giving::{DONE, give_made};
-use aig_held::Handle;
+use aig_giving::{EMPTY, give_made, of_read};
+use aig_held::{Handle, Held};
 use std::alloc::Global;
 
 /// A source of these bytes.
@@ -21,18 +22,15 @@ fn source_of<'a>(bytes: &'a [u8]) -> FromRead<&'a [u8]>
 }
 
 /// The circuit of the file that the bytes are, or the status that says why there is none.
-fn read(alloc: Global, bytes: &[u8], limit: usize) -> Result<Box<Aig>, u32>
-    ensures circuit { IfOk result (λ aig. IsReadFrom bytes.now limit aig.value) }
+fn read(alloc: Global, bytes: &[u8], limit: usize) -> Result<Aig, u32>
+    ensures circuit { IfOk result (IsReadFrom bytes.now limit) }
     ensures refused { IfErr result (RefusesFile bytes.now limit) }
 {
     if limit == 0 || limit > 1 << 31 {
         return Err(RANGE);
     }
     match Aig::from_aiger(alloc, &mut source_of(bytes), limit) {
-        Ok(aig) => match Box::new(alloc, aig) {
-            Ok(aig) => Ok(aig),
-            Err(_) => Err(MEMORY),
-        },
+        Ok(aig) => Ok(aig),
         Err(error) => Err(of_read(error)),
     }
 }
@@ -45,14 +43,11 @@ pub extern "C" fn aig_circuit_from_aiger(
     file: &[u8],
     limit: usize,
 ) -> u32
-    ensures { DoneOr result (IfSome (circuit_in circuit.new) (IsReadFrom file.now limit))
+    ensures { DoneOr result (IsSomeAnd (circuit_in circuit.new) (IsReadFrom file.now limit))
         (circuit.new ≡ circuit.old) (RefusesFile file.now limit result) }
 {
     match read(alloc, file, limit) {
-        Ok(aig) => {
-            circuit.put(alloc, aig);
-            DONE
-        }
+        Ok(aig) => put_held(alloc, Held::Circuit(aig), circuit),
         Err(status) => status,
     }
 }
@@ -103,7 +98,7 @@ pub extern "C" fn aig_circuit_write_text(
     out: &mut [u8],
     needed: &mut usize,
 ) -> u32
-    ensures kept { circuit_in circuit.new ≡ circuit_in circuit.old }
+    ensures kept { held_in circuit.new ≡ held_in circuit.old }
     ensures form { OnHeld circuit.old circuit.new result
         ((out.new ≡ out.old) × (needed.new ≡ needed.old)) (λ aig _. GivesForm text_of result
         out.old out.new needed.old needed.new aig) }
@@ -119,7 +114,7 @@ pub extern "C" fn aig_circuit_write_binary(
     out: &mut [u8],
     needed: &mut usize,
 ) -> u32
-    ensures kept { circuit_in circuit.new ≡ circuit_in circuit.old }
+    ensures kept { held_in circuit.new ≡ held_in circuit.old }
     ensures form { OnHeld circuit.old circuit.new result
         ((out.new ≡ out.old) × (needed.new ≡ needed.old)) (λ aig _. GivesForm binary_of result
         out.old out.new needed.old needed.new aig) }

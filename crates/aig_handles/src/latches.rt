@@ -7,10 +7,10 @@ ghost use Rattle.aig_handles.specs.Handles.{OnHeld};
 
 use crate::building::edge_if;
 use crate::checks::{has_edge_if_any, has_edges};
-use crate::status::{EMPTY, MEMORY, NOT_FREE, RANGE};
+use crate::status::{NOT_FREE, RANGE};
 use aig::{Aig, AigEdge};
-use aig_giving::{DONE, edge_of};
-use aig_held::Handle;
+use aig_giving::{DONE, EMPTY, MEMORY, edge_of};
+use aig_held::{Handle, Held};
 use std::alloc::Global;
 
 /// Makes a free leaf that of the last latch.

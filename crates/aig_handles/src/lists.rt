@@ -4,16 +4,16 @@ ghost use Rattle.std.specs.Prelude.{◌≡◌, ◌++◌, [], All, IfOk, OnErr, O
 ghost use Rattle.aig_circuit.specs.Circuit.{IsInRange};
 ghost use Rattle.aig_circuit.specs.PropLists.{edges_of, with_edges};
 ghost use Rattle.aig_giving.specs.Edges.{edge_of};
-ghost use Rattle.aig_giving.specs.declared.buffer.TheConstants.{DONE};
+ghost use Rattle.aig_giving.specs.declared.status.TheConstants.{DONE};
 ghost use Rattle.aig_handles.specs.Handles.{OnHeld};
 ghost use Rattle.aig_handles.specs.Lists.{ClearsOr, PushesJusticeOr, PushesOr, SetsEdgeOr, SetsEdgesOr, list_of, with_justice};
 
 use crate::checks::have_edges;
-use crate::status::{EMPTY, MEMORY, RANGE};
+use crate::status::RANGE;
 use aig::{Aig, AigEdge, PropList};
 use aig_base::MemoryError;
-use aig_giving::{DONE, edge_of, edges_of};
-use aig_held::Handle;
+use aig_giving::{DONE, EMPTY, MEMORY, edge_of, edges_of};
+use aig_held::{Handle, Held};
 use std::alloc::Global;
 
 /// The list of a number, if there is one.

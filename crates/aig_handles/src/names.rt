@@ -3,13 +3,13 @@
 ghost use Rattle.std.specs.Prelude.{◌≡◌, IfErr, IfOk, Some, ⊤};
 ghost use Rattle.std.specs.FinMap.{contains_key, get};
 ghost use Rattle.aig_giving.specs.Given.{GivesOr};
-ghost use Rattle.aig_handles.specs.Handles.{OnHeld, circuit_in};
+ghost use Rattle.aig_handles.specs.Handles.{OnHeld, held_in};
 ghost use Rattle.aig_handles.specs.Reading.{HasNoName, Lists, NamesOr, named_list};
 
-use crate::status::{EMPTY, MEMORY, NO_NAME, NOT_UTF8, RANGE};
+use crate::status::{NO_NAME, NOT_UTF8, RANGE};
 use aig::Aig;
-use aig_giving::{DONE, give, give_made};
-use aig_held::Handle;
+use aig_giving::{DONE, EMPTY, MEMORY, give, give_made};
+use aig_held::{Handle, Held};
 use std::alloc::Global;
 use std::str::from_utf8;
 
@@ -34,7 +34,7 @@ pub extern "C" fn aig_circuit_get_symbol(
     out: &mut [u8],
     needed: &mut usize,
 ) -> u32
-    ensures kept { circuit_in circuit.new ≡ circuit_in circuit.old }
+    ensures kept { held_in circuit.new ≡ held_in circuit.old }
     ensures name { OnHeld circuit.old circuit.new result
         ((out.new ≡ out.old) × (needed.new ≡ needed.old)) (λ c _. GivesOr (λ name. get c.names
         node ≡ Some name) result out.old out.new needed.old
@@ -111,7 +111,7 @@ pub extern "C" fn aig_circuit_symbols(
     out: &mut [usize],
     needed: &mut usize,
 ) -> u32
-    ensures kept { circuit_in circuit.new ≡ circuit_in circuit.old }
+    ensures kept { held_in circuit.new ≡ held_in circuit.old }
     ensures list { OnHeld circuit.old circuit.new result
         ((out.new ≡ out.old) × (needed.new ≡ needed.old)) (λ c _. Lists named_list result out.old
         out.new needed.old needed.new (result ≡ MEMORY) c) }

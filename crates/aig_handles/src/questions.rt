@@ -3,15 +3,14 @@
 ghost use Rattle.std.specs.Prelude.{◌≡◌, ◌↔◌, IsTrue};
 ghost use Rattle.aig_circuit.specs.Circuit.{BeginsWith};
 ghost use Rattle.aig_giving.specs.Edges.{edge_of};
-ghost use Rattle.aig_giving.specs.declared.buffer.TheConstants.{DONE};
-ghost use Rattle.aig_handles.specs.Handles.{OnHeld, circuit_in};
+ghost use Rattle.aig_giving.specs.declared.status.TheConstants.{DONE};
+ghost use Rattle.aig_handles.specs.Handles.{OnHeld, held_in};
 ghost use Rattle.aig_handles.specs.Questions.{Answers, Holds};
 
-use crate::status::EMPTY;
 use aig::{Aig, AigEdge};
 use aig_circuit::gate_node;
-use aig_giving::{DONE, edge_of};
-use aig_held::Handle;
+use aig_giving::{EMPTY, edge_of, tell};
+use aig_held::{Handle, Held};
 use std::alloc::Global;
 
 /// What is asked of a circuit.
@@ -50,12 +49,7 @@ fn ask(alloc: Global, circuit: &mut Handle, question: Question, answer: &mut boo
     ensures { OnHeld circuit.old circuit.new result (answer.new ≡ answer.old)
         (Answers question result answer.new) }
 {
-    let Some(aig) = circuit.take(alloc) else {
-        return EMPTY;
-    };
-    *answer = holds(&*aig, question);
-    circuit.put(alloc, aig);
-    DONE
+    lend!(alloc, circuit, aig => tell(holds(&*aig, question), answer))
 }
 
 /// Tells whether there is a node of this number.
@@ -152,12 +146,7 @@ fn begins(alloc: Global, aig: &Aig, from: &mut Handle, answer: &mut bool) -> u32
     ensures { OnHeld from.old from.new result (answer.new ≡ answer.old) (λ first now.
         (result ≡ DONE) × (now ≡ first) × (IsTrue answer.new ↔ BeginsWith aig.now first)) }
 {
-    let Some(first) = from.take(alloc) else {
-        return EMPTY;
-    };
-    *answer = aig.begins_with(&*first);
-    from.put(alloc, first);
-    DONE
+    lend!(alloc, from, first => tell(aig.begins_with(&*first), answer))
 }
 
 /// Tells whether a circuit's first nodes are those of another, and both have latches on the same leaves.
@@ -168,8 +157,8 @@ pub extern "C" fn aig_circuit_begins_with(
     from: &mut Handle,
     answer: &mut bool,
 ) -> u32
-    ensures kept { circuit_in circuit.new ≡ circuit_in circuit.old }
-    ensures other { circuit_in from.new ≡ circuit_in from.old }
+    ensures kept { held_in circuit.new ≡ held_in circuit.old }
+    ensures other { held_in from.new ≡ held_in from.old }
     ensures begins { OnHeld circuit.old circuit.new result (answer.new ≡ answer.old) (λ aig _.
         OnHeld from.old from.new result (answer.new ≡ answer.old) (λ first _.
         (result ≡ DONE) × (IsTrue answer.new ↔ BeginsWith aig first))) }

@@ -4,15 +4,17 @@ ghost use Rattle.std.specs.Prelude.{◌≡◌, ◌<◌, All, IfErr, IfOk, Some, 
 ghost use Rattle.aig_circuit.specs.Circuit.{IsCircuit, IsInRange};
 ghost use Rattle.aig_circuit.specs.Edge.{literal_of};
 ghost use Rattle.aig_giving.specs.Given.{GivesOr};
-ghost use Rattle.aig_handles.specs.Handles.{OnHeld, Unmet, circuit_in};
+ghost use Rattle.aig_handles.specs.Handles.{OnHeld, Unmet, held_in};
 ghost use Rattle.aig_handles.specs.Reading.{AreEntries, AreJustice, Counts, HasNoEntries, HasNoJustice, HasNoLiterals, Lists, gate_list, latch_list, node_list};
 ghost use Rattle.aig_handles.specs.Lists.{list_of};
 
 use crate::lists::{entries, list_of};
-use crate::status::{EMPTY, FULL, MEMORY, RANGE};
+use crate::status::{FULL, RANGE};
 use aig::{Aig, AigEdge};
-use aig_giving::{DONE, GivenLatch, GivenNode, give, give_made, latches, literals, nodes};
-use aig_held::Handle;
+use aig_giving::{
+    EMPTY, GivenLatch, GivenNode, MEMORY, give, give_made, latches, literals, nodes, tell,
+};
+use aig_held::{Handle, Held};
 use std::alloc::Global;
 
 /// Tells how many nodes there are, node 0 among them.
@@ -25,12 +27,7 @@ pub extern "C" fn aig_circuit_num_nodes(
     ensures { OnHeld circuit.old circuit.new result (count.new ≡ count.old)
         (Counts (λ c. length c.nodes) result count.new) }
 {
-    let Some(aig) = circuit.take(alloc) else {
-        return EMPTY;
-    };
-    *count = aig.num_nodes();
-    circuit.put(alloc, aig);
-    DONE
+    lend!(alloc, circuit, aig => tell(aig.num_nodes(), count))
 }
 
 /// Tells how many justice properties there are.
@@ -43,12 +40,7 @@ pub extern "C" fn aig_circuit_num_justice(
     ensures { OnHeld circuit.old circuit.new result (count.new ≡ count.old)
         (Counts (λ c. length c.properties.justice) result count.new) }
 {
-    let Some(aig) = circuit.take(alloc) else {
-        return EMPTY;
-    };
-    *count = aig.justice().len();
-    circuit.put(alloc, aig);
-    DONE
+    lend!(alloc, circuit, aig => tell(aig.justice().len(), count))
 }
 
 /// The nodes, or the status that says why they have no literals.
@@ -81,7 +73,7 @@ pub extern "C" fn aig_circuit_nodes(
     out: &mut [GivenNode],
     needed: &mut usize,
 ) -> u32
-    ensures kept { circuit_in circuit.new ≡ circuit_in circuit.old }
+    ensures kept { held_in circuit.new ≡ held_in circuit.old }
     ensures list { OnHeld circuit.old circuit.new result
         ((out.new ≡ out.old) × (needed.new ≡ needed.old)) (λ c _. Lists node_list result out.old
         out.new needed.old needed.new (HasNoLiterals result c) c) }
@@ -104,7 +96,7 @@ pub extern "C" fn aig_circuit_inputs(
     out: &mut [usize],
     needed: &mut usize,
 ) -> u32
-    ensures kept { circuit_in circuit.new ≡ circuit_in circuit.old }
+    ensures kept { held_in circuit.new ≡ held_in circuit.old }
     ensures list { OnHeld circuit.old circuit.new result
         ((out.new ≡ out.old) × (needed.new ≡ needed.old)) (λ c _. Lists (λ c. c.inputs) result
         out.old out.new needed.old needed.new ⊥ c) }
@@ -142,7 +134,7 @@ pub extern "C" fn aig_circuit_latchs(
     out: &mut [GivenLatch],
     needed: &mut usize,
 ) -> u32
-    ensures kept { circuit_in circuit.new ≡ circuit_in circuit.old }
+    ensures kept { held_in circuit.new ≡ held_in circuit.old }
     ensures list { OnHeld circuit.old circuit.new result
         ((out.new ≡ out.old) × (needed.new ≡ needed.old)) (λ c _. Lists latch_list result out.old
         out.new needed.old needed.new (HasNoLiterals result c) c) }
@@ -193,7 +185,7 @@ pub extern "C" fn aig_circuit_edges(
     out: &mut [u32],
     needed: &mut usize,
 ) -> u32
-    ensures kept { circuit_in circuit.new ≡ circuit_in circuit.old }
+    ensures kept { held_in circuit.new ≡ held_in circuit.old }
     ensures list { OnHeld circuit.old circuit.new result
         ((out.new ≡ out.old) × (needed.new ≡ needed.old)) (λ c _. GivesOr (AreEntries list c)
         result out.old out.new needed.old needed.new (HasNoEntries list result c)) }
@@ -237,7 +229,7 @@ pub extern "C" fn aig_circuit_justice(
     out: &mut [u32],
     needed: &mut usize,
 ) -> u32
-    ensures kept { circuit_in circuit.new ≡ circuit_in circuit.old }
+    ensures kept { held_in circuit.new ≡ held_in circuit.old }
     ensures list { OnHeld circuit.old circuit.new result
         ((out.new ≡ out.old) × (needed.new ≡ needed.old)) (λ c _. GivesOr (AreJustice i c) result
         out.old out.new needed.old needed.new (HasNoJustice i result c)) }
@@ -272,7 +264,7 @@ pub extern "C" fn aig_circuit_ands(
     out: &mut [usize],
     needed: &mut usize,
 ) -> u32
-    ensures kept { circuit_in circuit.new ≡ circuit_in circuit.old }
+    ensures kept { held_in circuit.new ≡ held_in circuit.old }
     ensures list { OnHeld circuit.old circuit.new result
         ((out.new ≡ out.old) × (needed.new ≡ needed.old)) (λ c _. Lists gate_list result out.old
         out.new needed.old needed.new (result ≡ MEMORY) c) }

@@ -1,16 +1,11 @@
 //! The numbers by which calls say how they ended. `include/aig.h` has them in words.
 
-ghost use Rattle.std.specs.Prelude.{◌≡◌, ◌<◌};
-ghost use Rattle.aig_handles.specs.Files.{read_status, section_number, write_status};
+ghost use Rattle.std.specs.Prelude.{◌≡◌};
+ghost use Rattle.aig_handles.specs.Files.{write_status};
 
-use aig::{ReadError, Section, WriteError};
+use aig::WriteError;
+use aig_giving::{MEMORY, UNWRITABLE};
 
-/// Memory was refused.
-pub(crate) const MEMORY: u32 = 2;
-/// The circuit is too large for the format.
-pub(crate) const UNWRITABLE: u32 = 9;
-/// The handle holds nothing.
-pub(crate) const EMPTY: u32 = 110;
 /// An edge, a node, an entry or a list isn't there, or a limit isn't one.
 pub(crate) const RANGE: u32 = 111;
 /// The circuit has more than 2^31 nodes, or could have.
@@ -35,38 +30,6 @@ pub(crate) const NO_BEGINNING: u32 = 120;
 pub(crate) const COUNT: u32 = 121;
 /// A value is none of the three.
 pub(crate) const VALUE: u32 = 122;
-
-/// The number of a section, in the order of the header's counts from 1.9 on, and of the gates at last.
-fn section_number(section: Section) -> u32
-    ensures value { result ≡ section_number section }
-    ensures few { result < 8 }
-{
-    match section {
-        Section::Inputs => 0,
-        Section::Latches => 1,
-        Section::Outputs => 2,
-        Section::Bads => 3,
-        Section::Constraints => 4,
-        Section::Justice => 5,
-        Section::Fairness => 6,
-        Section::Gates => 7,
-    }
-}
-
-/// The status of a file that is refused. No path is opened, and no read of memory fails.
-pub(crate) fn of_read(error: ReadError) -> u32
-    ensures { result ≡ read_status error }
-{
-    match error {
-        ReadError::Memory | ReadError::Stream => MEMORY,
-        ReadError::Header | ReadError::Open => 10,
-        ReadError::TooMany => 11,
-        ReadError::Delta => 12,
-        ReadError::Name => 13,
-        ReadError::Syntax(section) => 16 + section_number(section),
-        ReadError::Literal(section) => 24 + section_number(section),
-    }
-}
 
 /// The status of a circuit that isn't written. No file is made, and a write to memory stops only where memory is refused.
 pub(crate) fn of_write(error: WriteError) -> u32

@@ -2,14 +2,14 @@
 
 ghost use Rattle.std.specs.Prelude.{◌≡◌, ⊤};
 ghost use Rattle.aig_giving.specs.Edges.{edge_of};
-ghost use Rattle.aig_handles.specs.Handles.{OnHeld, circuit_in};
+ghost use Rattle.aig_handles.specs.Handles.{OnHeld, held_in};
 ghost use Rattle.aig_handles.specs.Transforms.{CompressesOr, ConstrainsOr, MergesOr, MovesOr, ReencodesOr, RefinesOr, SetsGateOr, StrashesOr, UnrollsOr, UnrollsToOr};
 
-use crate::status::{EMPTY, FREE_LEAF, FULL, MEMORY, NO_BEGINNING, NOT_ADMITTED};
+use crate::status::{FREE_LEAF, FULL, NO_BEGINNING, NOT_ADMITTED};
 use aig::{Aig, AigEdge};
 use aig_circuit::gate_node;
-use aig_giving::{DONE, edge_of};
-use aig_held::Handle;
+use aig_giving::{DONE, EMPTY, MEMORY, edge_of};
+use aig_held::{Handle, Held};
 use std::alloc::Global;
 
 /// Gives a gate other operands.
@@ -220,7 +220,7 @@ fn unroll_held(alloc: Global, circuit: &mut Handle, from: &Aig) -> u32
 /// Adds one step of the circuit `from`, of which a circuit holds the steps so far.
 #[unsafe(no_mangle)]
 pub extern "C" fn aig_circuit_unroll(alloc: Global, circuit: &mut Handle, from: &mut Handle) -> u32
-    ensures kept { circuit_in from.new ≡ circuit_in from.old }
+    ensures kept { held_in from.new ≡ held_in from.old }
     ensures unrolls { OnHeld from.old from.new result (circuit.new ≡ circuit.old) (λ first _.
         OnHeld circuit.old circuit.new result ⊤ (UnrollsOr first result)) }
 {
@@ -237,7 +237,7 @@ fn merge_held(alloc: Global, circuit: &mut Handle, other: &Aig) -> u32
 /// Appends the nodes of another circuit but 0, and the entries of its lists.
 #[unsafe(no_mangle)]
 pub extern "C" fn aig_circuit_merge(alloc: Global, circuit: &mut Handle, other: &mut Handle) -> u32
-    ensures kept { circuit_in other.new ≡ circuit_in other.old }
+    ensures kept { held_in other.new ≡ held_in other.old }
     ensures merges { OnHeld other.old other.new result (circuit.new ≡ circuit.old) (λ more _.
         OnHeld circuit.old circuit.new result ⊤ (MergesOr more result)) }
 {

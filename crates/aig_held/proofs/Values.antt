@@ -38,10 +38,10 @@ use Rattle.std.proofs.ResultValues.{and_tt}
 use Rattle.std.specs.contracts.impls.GlobalAllocator.TheImpl.{ghosts}
 use Rattle.std.proofs.Handle.{handle}
 use Rattle.std.proofs.GlobalToken.{dealloc_token-Testable}
-use Rattle.aig.specs.contracts.graph.Aig
 use Rattle.aig_held.specs.Kept.{kept}
 use Rattle.aig_held.specs.contracts.loose.Loose as loose
 use Rattle.aig_held.specs.contracts.handle.Handle
+use Rattle.aig_held.specs.contracts.held.Held
 
 -- a machine value has a type
 abbrev pub Good : Ty → Val → Type 0
@@ -100,12 +100,12 @@ one τ (v ∷ []) t = (v, refl, t.0)
 one τ (v ∷ w ∷ vs) t = absurd t.1
 
 module _ {M : Type 1} {𝓤 : Ura M} {𝓛 : Logic 𝓤} {K : Type 0} {Γ : List (Item 𝓤)} {G : Goal 𝓤 𝓛.H} where
-  pub handle_in : K → (p : Ptr) (x : Aig.the_row.Denot)
-      → Step K 𝓛 (‵ (Handle.the_row.own_val (record { at = p; circuit = x }) (word p ∷ [])) ∷ Γ) G (‵ (kept Aig.the_row p x) ∷ Γ) G
+  pub handle_in : K → (p : Ptr) (x : Held.the_row.Denot)
+      → Step K 𝓛 (‵ (Handle.the_row.own_val (record { at = p; value = x }) (word p ∷ [])) ∷ Γ) G (‵ (kept Held.the_row p x) ∷ Γ) G
   handle_in t p x = step (λ s. nothing t $ feq_i t (List Val) (ptr_val p ∷ []) (ptr_val p ∷ []) refl $ fjoin t $ feq_i t (List Val) (word p ∷ []) (word p ∷ []) refl $ fjoin t $
       fpack t (Valss (RawPtr ∷ [])) (within (shape Handle.the_type) (p, tt) (word p ∷ [])) (ptr_val p ∷ [], tt) $ fjoin t $ s)
 
-  pub handle_out : K → (d : Handle.the_row.Denot) (vs : List Val) → (vs ≡ word d.at ∷ [] → Seq K 𝓛 (‵ (kept Aig.the_row d.at d.circuit) ∷ Γ) G)
+  pub handle_out : K → (d : Handle.the_row.Denot) (vs : List Val) → (vs ≡ word d.at ∷ [] → Seq K 𝓛 (‵ (kept Held.the_row d.at d.value) ∷ Γ) G)
       → Seq K 𝓛 (‵ (Handle.the_row.own_val d vs) ∷ Γ) G
   handle_out t d vs k = fsplit t $ fpick t (λ vss. fsplit t $ feq_l t (λ ev. fsplit t $ feq_l t (λ ep. drop t $ k (ev ∙ ap (λ (ps : List Val). vstruct (of_list (ps ++ [])) ∷ []) ep))))
 

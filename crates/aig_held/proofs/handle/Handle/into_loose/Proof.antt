@@ -25,9 +25,9 @@ use Rattle.std.specs.contracts.alloc.Global as heap
 use Rattle.std.proofs.alloc.Global.TheLaws as heap_laws
 use Rattle.std.specs.contracts.impls.GlobalAllocator.TheImpl.{ghosts}
 use Rattle.std.specs.Box.Ownership.{box_owns}
-use Rattle.aig.specs.contracts.graph.Aig
 use Rattle.aig_held.specs.Kept.{kept, held}
 use Rattle.aig_held.specs.contracts.handle.Handle
+use Rattle.aig_held.specs.contracts.held.Held
 use Rattle.aig_held.proofs.Values.{Good, one, both, Loose, loose_good, loose_in, word, word_good, pointer_good, handle_out, cases, some_of, none_of}
 use Rattle.aig_held.specs.contracts.handle.Handle.into_loose.{ended, clauses}
 use Rattle.aig_held.specs.contracts.handle.Handle.into_loose.Key.{name as #self}
@@ -37,7 +37,7 @@ use Rattle.aig_held.proofs.handle.Handle.into_loose.Code as code
 pub into_loose_spec : {M : Type 1} → statement M
 into_loose_spec 𝓤 𝓛 𝓜 𝓡 wired =
     let H = 𝓛.H in let 𝓣 = tables 𝓤 H 𝓜 𝓡 𝓡.env in let c = clauses 𝓛 𝓜.mem 𝓡.returns in let fn = code.function in
-    let R = Aig.the_row in let Z = heap.the_row in let LZ = heap_laws.the_row_laws in let Lr : RattleType = Loose R Z LZ ghosts in
+    let R = Held.the_row in let Z = heap.the_row in let LZ = heap_laws.the_row_laws in let Lr : RattleType = Loose R Z LZ ghosts in
     let hs : Stays ended.signature.params ended.kept = (stay_dropped (plain (λ _. Handle.the_row)) ended.kept.0, (stay_dropped (plain (λ _. Z)) ended.kept.1.0, tt)) in
     proved_at 𝓛 ended hs c 𝓜 𝓡 (Goes-blank 𝓛 0 (plain (λ _. Handle.the_row)) ended.kept.0 (λ κs x f. tt), (Goes-dropped 𝓛 0 (plain (λ _. Z)) ended.kept.1.0 (λ κs x f. refl), tt)) #self fn (code.unfolded 𝓤 H 𝓜 𝓡 wired) (λ z are.
     let d = z.0.3.0 in let a = z.0.3.1.0 in let Post : Val → SProp 𝓤 = (walk_of 𝓛 ended hs c).post z in let Run : List Val → SProp 𝓤 = λ ws. WpFn 𝓤 H 𝓣.C 𝓣.Λ fn ws Post in
@@ -49,8 +49,8 @@ into_loose_spec 𝓤 𝓛 𝓜 𝓡 wired =
     let from : (p : Ptr) → d.at ≡ p → ent 𝓤 (Run (word p ∷ h ∷ [])) (Run (z.0.4.0 ++ (z.0.4.1.0 ++ []))) = λ p e.
     let at : z.0.4.0 ≡ word p ∷ [] = ws ∙ ap (λ (q : Ptr). word q ∷ []) e in
     subst (λ (us : List Val). ent 𝓤 (Run (word p ∷ h ∷ [])) (Run us)) (sym (λ i. at i ++ (hv.1 i ++ []))) (id⊢ 𝓤 (Run (word p ∷ h ∷ []))) in
-    cases ! R d.at d.circuit
-    (λ e. let tells : None ≡ held d.at d.circuit = sym (ap (λ (p : Ptr). held p d.circuit) e) in
+    cases ! R d.at d.value
+    (λ e. let tells : None ≡ held d.at d.value = sym (ap (λ (p : Ptr). held p d.value) e) in
     suffices ! (Run (word null_ptr ∷ h ∷ [])) (from null_ptr e) $
     enter ! 𝓣.C 𝓣.Λ fn (word null_ptr ∷ h ∷ []) Post $
     alloc_all ! (λ l. pass_all ! refl (word_good null_ptr, (hv.2, tt)) $
@@ -58,12 +58,12 @@ into_loose_spec 𝓤 𝓛 𝓜 𝓡 wired =
     sets ! (bin ! (get ! refl) (lit ! tt) tt) refl (tt, tt) $ first ! $ branches ! (get ! refl)
     (λ _. sets ! (agg ! (and_then ! (lit ! tt) (no_more !))) refl (tt, (record { fits = lit< tt }, tt)) $
     returns_within ! Post refl (look_at ! 0 refl) $ free_all ! refl $
-    use0 𝓛 (‵ (Out.own_val None (live 0 vnil ∷ []))) (none_of 𝓛 Lr) $ use0 𝓛 (raw (fact 𝓤 (None ≡ held d.at d.circuit))) (fact_i 𝓤 (None ≡ held d.at d.circuit) (emp 𝓤) tells) $
+    use0 𝓛 (‵ (Out.own_val None (live 0 vnil ∷ []))) (none_of 𝓛 Lr) $ use0 𝓛 (raw (fact 𝓤 (None ≡ held d.at d.value))) (fact_i 𝓤 (None ≡ held d.at d.value) (emp 𝓤) tells) $
     nothing ! $ nothing ! $ fjoin ! $ nothing ! $ fjoin ! $ keep ! (5 ∷ 0 ∷ 2 ∷ 1 ∷ []) $
     by ! (leaves 𝓛 ended hs c z (live 0 vnil) None (tt, (tt, tt)) (tt, (tt, tt))))
     (λ wrong. absurd wrong)))
-    (λ b o e t. let tells : Some d.circuit ≡ held d.at d.circuit = sym (ap (λ (p : Ptr). held p d.circuit) e) in let made : Val = both (vptr b o) h in
-    let typed = loose_good R Z LZ ghosts b o h hv.2 in let v₁ : Val = live 1 (vcons made vnil) in let x : Lr.Denot = record { at = block_ptr b o; alloc = a; value = d.circuit } in
+    (λ b o e t. let tells : Some d.value ≡ held d.at d.value = sym (ap (λ (p : Ptr). held p d.value) e) in let made : Val = both (vptr b o) h in
+    let typed = loose_good R Z LZ ghosts b o h hv.2 in let v₁ : Val = live 1 (vcons made vnil) in let x : Lr.Denot = record { at = block_ptr b o; alloc = a; value = d.value } in
     let good : Good (layout Out) v₁ = (and_tt _ typed.0, (record { fits = lit< tt }, (typed.1, tt))) in
     suffices ! (Run (word (block_ptr b o) ∷ h ∷ [])) (from (block_ptr b o) e) $
     enter ! 𝓣.C 𝓣.Λ fn (word (block_ptr b o) ∷ h ∷ []) Post $
@@ -76,8 +76,8 @@ into_loose_spec 𝓤 𝓛 𝓜 𝓡 wired =
     sets ! (agg ! (and_then ! (get ! refl) (and_then ! (get ! refl) (no_more !)))) refl typed $
     sets ! (agg ! (and_then ! (lit ! tt) (and_then ! (get ! refl) (no_more !)))) refl good $
     returns ! (look_at ! 0 refl) $ free_all ! refl $
-    use1 𝓛 (‵ (box_owns (ghosts.dealloc_token a) R (block_ptr b o) d.circuit)) (id⊢ 𝓤 _) $
-    loose_in R Z LZ ghosts ! b o h a d.circuit $
-    use1 𝓛 (‵ (Out.own_val (Some x) (v₁ ∷ []))) (some_of 𝓛 Lr x made) $ use0 𝓛 (raw (fact 𝓤 (Some d.circuit ≡ held d.at d.circuit))) (fact_i 𝓤 (Some d.circuit ≡ held d.at d.circuit) (emp 𝓤) tells) $
+    use1 𝓛 (‵ (box_owns (ghosts.dealloc_token a) R (block_ptr b o) d.value)) (id⊢ 𝓤 _) $
+    loose_in R Z LZ ghosts ! b o h a d.value $
+    use1 𝓛 (‵ (Out.own_val (Some x) (v₁ ∷ []))) (some_of 𝓛 Lr x made) $ use0 𝓛 (raw (fact 𝓤 (Some d.value ≡ held d.at d.value))) (fact_i 𝓤 (Some d.value ≡ held d.at d.value) (emp 𝓤) tells) $
     nothing ! $ nothing ! $ fjoin ! $ nothing ! $ fjoin ! $ keep ! (4 ∷ 0 ∷ 2 ∷ 1 ∷ []) $
     by ! (leaves 𝓛 ended hs c z v₁ (Some x) (tt, (tt, tt)) (tt, (tt, tt))))))))

@@ -18,6 +18,7 @@ use denote.Triple.Walked.{walk_of}
 use Rattle.std.specs.Prelude.{None}
 use Rattle.aig_circuit.specs.Circuit.{only_false}
 use Rattle.std.proofs.raw_atomic.Walks.{proved_at, leaves}
+use Rattle.aig_held.specs.declared.held.Held.TheVariants.{Circuit}
 use Rattle.aig_held.proofs.Values.{word, word_good, handle_in}
 use Rattle.aig_held.specs.contracts.handle.Handle.none.{ended, clauses}
 use Rattle.aig_held.specs.contracts.handle.Handle.none.Key.{name as #self}
@@ -32,7 +33,7 @@ none_spec 𝓤 𝓛 𝓜 𝓡 wired =
     qed 𝓛 ((raw (alive 𝓛 ended.signature z.0.0 z.0.1) ⊛ ‵ (owns (types_at ended.signature.params z.0.0) z.0.3 z.0.4)) ∷ ‵ ftrue ∷ []) ∵ split ! $
     enter ! 𝓣.C 𝓣.Λ fn [] Post $ alloc_all ! (λ l. pass_all ! refl tt $
     sets ! (agg ! (and_then ! (lit ! tt) (no_more !))) refl (word_good null_ptr) $
-    returns ! (look_at ! 0 refl) $ free_all ! refl $ nothing ! $ handle_in ! null_ptr only_false $
+    returns ! (look_at ! 0 refl) $ free_all ! refl $ nothing ! $ handle_in ! null_ptr (Circuit only_false) $
     use0 𝓛 (raw (fact 𝓤 (None ≡ None))) (fact_i 𝓤 (None ≡ None) (emp 𝓤) refl) $ nothing ! $
     keep ! (3 ∷ 0 ∷ 2 ∷ 1 ∷ []) $
-    by ! (leaves 𝓛 ended tt c z (word null_ptr) (record { at = null_ptr; circuit = only_false }) tt tt)))
+    by ! (leaves 𝓛 ended tt c z (word null_ptr) (record { at = null_ptr; value = Circuit only_false }) tt tt)))

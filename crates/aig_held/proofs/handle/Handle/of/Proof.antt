@@ -22,10 +22,10 @@ use Rattle.std.proofs.raw_atomic.Walks.{proved_at, leaves}
 use Rattle.std.specs.contracts.alloc.Global as heap
 use Rattle.std.proofs.alloc.Global.TheLaws as heap_laws
 use Rattle.std.specs.contracts.impls.GlobalAllocator.TheImpl.{ghosts}
-use Rattle.aig.specs.contracts.graph.Aig
 use Rattle.std.specs.Box.Ownership.{box_owns}
 use Rattle.aig_held.specs.Kept.{kept}
 use Rattle.aig_held.proofs.Values.{both, Loose, loose_good, loose_out, word, word_good, handle_in}
+use Rattle.aig_held.specs.contracts.held.Held
 use Rattle.aig_held.specs.contracts.handle.Handle.of.{ended, clauses}
 use Rattle.aig_held.specs.contracts.handle.Handle.of.Key.{name as #self}
 use Rattle.aig_held.proofs.handle.Handle.of.Statement.{statement}
@@ -34,7 +34,7 @@ use Rattle.aig_held.proofs.handle.Handle.of.Code as code
 pub of_spec : {M : Type 1} → statement M
 of_spec 𝓤 𝓛 𝓜 𝓡 wired =
     let H = 𝓛.H in let 𝓣 = tables 𝓤 H 𝓜 𝓡 𝓡.env in let c = clauses 𝓛 𝓜.mem 𝓡.returns in let fn = code.function in
-    let R = Aig.the_row in let Z = heap.the_row in let LZ = heap_laws.the_row_laws in
+    let R = Held.the_row in let Z = heap.the_row in let LZ = heap_laws.the_row_laws in
     let hs : Stays ended.signature.params ended.kept = (stay_dropped (plain (λ _. Loose R Z LZ ghosts)) ended.kept.0, tt) in
     proved_at 𝓛 ended hs c 𝓜 𝓡 (Goes-blank 𝓛 0 (plain (λ _. Loose R Z LZ ghosts)) ended.kept.0 (λ κs x f. tt), tt) #self fn (code.unfolded 𝓤 H 𝓜 𝓡 wired) (λ z are.
     let v = z.0.3.0 in let Post : Val → SProp 𝓤 = (walk_of 𝓛 ended hs c).post z in let Run : List Val → SProp 𝓤 = λ ws. WpFn 𝓤 H 𝓣.C 𝓣.Λ fn ws Post in
@@ -50,4 +50,4 @@ of_spec 𝓤 𝓛 𝓜 𝓡 wired =
     sets ! (agg ! (and_then ! (get ! refl) (no_more !))) refl (word_good (block_ptr b o)) $
     returns ! (look_at ! 0 refl) $ free_all ! refl $ handle_in ! (block_ptr b o) v.value $
     use0 𝓛 (raw (fact 𝓤 (Some v.value ≡ Some v.value))) (fact_i 𝓤 (Some v.value ≡ Some v.value) (emp 𝓤) refl) $ nothing ! $ nothing ! $ fjoin ! $ keep ! (5 ∷ 0 ∷ 2 ∷ 1 ∷ []) $
-    by ! (leaves 𝓛 ended hs c z (word (block_ptr b o)) (record { at = block_ptr b o; circuit = v.value }) (tt, tt) (tt, tt)))))
+    by ! (leaves 𝓛 ended hs c z (word (block_ptr b o)) (record { at = block_ptr b o; value = v.value }) (tt, tt) (tt, tt)))))
