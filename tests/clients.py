@@ -199,8 +199,8 @@ class Clients:
     def check_statuses(self):
         """Holds the header's statuses and the library's together."""
         values = header_statuses()
-        text = "".join(source("crates", crate, "src", "status.rt") for crate in archive.HEADERS)
-        constants = dict(re.findall(r"^(?:pub\(crate\) )?const (\w+): u32 = (\d+);", text, re.M))
+        text = "".join(source("crates", crate, "src", "status.rt") for crate in ["aig_giving", *archive.HEADERS])
+        constants = dict(re.findall(r"^(?:pub(?:\(crate\))? )?const (\w+): u32 = (\d+);", text, re.M))
         first = FIRST | {name: f"{name}_{SECTIONS[0]}" for name in ("SYNTAX", "LITERAL")}
         given = {name: values.get(first.get(name, name)) for name in constants}
         self.tally.wants("the header's statuses and the library's", constants, given)

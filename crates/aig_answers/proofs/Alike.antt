@@ -1,8 +1,9 @@
 -- What is told of a proof of some clauses is told of equal ones.
-use Rattle.aig_answers.proofs.Words.{◌≡◌, ℕ, Bool, List, Option, Result, sym, ap, subst, ◌∙◌, Lit, Circuit, HasClauses, query_clauses, AsksWindow, Window, CircuitQuery, AnswerError, IsCircuitQuery, TellsOfCircuit, TellsOfProof}
+use Rattle.aig_answers.proofs.Words.{◌≡◌, ℕ, Bool, List, Option, Result, sym, ap, subst, ◌∙◌, Lit, Circuit, HasClauses, query_clauses, AsksWindow, Window, CircuitQuery, IsCircuitQuery, TellsOfCircuit, TellsOfProof}
+use Rattle.aig_refutation.specs.declared.error.RefutationError.{RefutationError}
 
 pub told_alike : (lists others : List (List (List Lit))) (extra more : List (List Lit))
-    (text : Option (List ℕ)) (answer : Result (Unit {0}) AnswerError) → lists ≡ others
+    (text : Option (List ℕ)) (answer : Result (Unit {0}) RefutationError) → lists ≡ others
     → extra ≡ more → TellsOfProof lists extra text answer
     → TellsOfProof others more text answer
 told_alike lists others extra more text answer same also told =
@@ -24,7 +25,7 @@ WindowsAreOne =
 
 -- so what is told of the clauses of one query of a circuit is told of those of each
 pub query_told : AreOne → (c : Circuit) (k : ℕ) (optimize : Bool) (text : Option (List ℕ))
-    (answer : Result (Unit {0}) AnswerError) (q : CircuitQuery) → IsCircuitQuery c k optimize q
+    (answer : Result (Unit {0}) RefutationError) (q : CircuitQuery) → IsCircuitQuery c k optimize q
     → TellsOfProof q.clauses q.extra text answer → TellsOfCircuit k optimize text c answer
 query_told are_one c k optimize text answer q is told = (
   (q, is),

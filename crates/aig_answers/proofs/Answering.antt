@@ -1,7 +1,5 @@
 -- The query and the window of the file that was read.
-use Rattle.aig_answers.proofs.Words.{◌≡◌, ◌≢◌, ℕ, ◌+◌, ◌≤◌, Bool, Option, Result, Ok, Err, List, [], sym, subst, arith, IfOk, Lit, Circuit, lists_circuit, CircuitLists, FixesRoots, HasClauses, NodeValuesSatisfy, circuit_of, File, Accepts, Fits, AreListsOf, IsReadAs, Accepted, verdict_by, IsFileCircuit, unrolled_size, UnrollsTo, AsksOfCircuit, Encodes, IsQueryOf, Window, IsQuery, CircuitQuery, AnswerError, IsAsked, IsCircuitQuery, IsSaidBy, IsUnrolledWindow, circuit_window_verdict, verdict_of, circuit_verdict, IsUnrolledOf, UnrolledCircuit, Unrolls}
-use Rattle.aig_answers.specs.declared.windows.UnrolledWindow.{UnrolledWindow}
-use Rattle.aig_runs.proofs.Asking.{unrolls_to}
+use Rattle.aig_answers.proofs.Words.{◌≡◌, ◌≢◌, ℕ, ◌≤◌, Bool, Option, List, [], sym, subst, Lit, Circuit, lists_circuit, CircuitLists, FixesRoots, HasClauses, NodeValuesSatisfy, circuit_of, File, Accepts, Fits, AreListsOf, IsReadAs, Accepted, IsFileCircuit, unrolled_size, UnrollsTo, AsksOfCircuit, Encodes, IsQueryOf, IsQuery, CircuitQuery, IsAsked, IsCircuitQuery, circuit_verdict}
 use Rattle.aig_answers.proofs.Verdicts.{read_unrolled, bads_of}
 
 -- that what encodes a file's circuit encodes the file
@@ -51,16 +49,3 @@ module _ (limit k : ℕ) (c : Circuit) (old new : Option (List ℕ)) (read : IsR
   pub query_answers : EncodesFiles → AsksFiles → (optimize : Bool) (q : CircuitQuery) → IsCircuitQuery c k optimize q → Accepted ≡ circuit_verdict limit k c
       → IsReadAs (IsAsked limit k) (IsQuery k optimize) old new (record { encoded = record { circuit = c; unrolled = q.unrolled; clauses = q.clauses }; extra = q.extra })
   query_answers encodes asks optimize q made said = asked_file k (IsQuery k optimize) _ (read_unrolled limit k c Accepted said) (query_of_file limit k c optimize q encodes asks made)
-
-  pub circuit_answers : (r : Result UnrolledCircuit AnswerError) → IsSaidBy (circuit_verdict limit k c) (verdict_by verdict_of r) → IfOk r (Unrolls c k)
-      → IfOk r (IsReadAs (IsAsked limit k) (IsUnrolledOf k limit) old new)
-  circuit_answers (Ok u) said made =
-      let asked = read_unrolled limit k c Accepted said in
-      let few = (unrolls_to c k u made).size in
-      asked_file k (IsUnrolledOf k limit) u asked (λ f fits is. record { fits = fits; unrolls = subst (λ d. Unrolls d k u) is made; few = omega (arith, few, asked.0) })
-  circuit_answers (Err e) said made = tt
-
-  pub window_answers : (form : Window) (optimize : Bool) (r : Result UnrolledWindow AnswerError) → IsSaidBy (circuit_window_verdict form limit k c) (verdict_by verdict_of r) → IfOk r (IsUnrolledWindow form c k optimize)
-      → IfOk r (IsReadAs (IsAsked limit (k + 1)) (λ f. IsUnrolledWindow form (circuit_of f) k optimize) old new)
-  window_answers form optimize (Ok made) said asks = asked_file (k + 1) (λ f. IsUnrolledWindow form (circuit_of f) k optimize) made (read_unrolled limit (k + 1) c _ said) (λ f fits is. subst (λ d. IsUnrolledWindow form d k optimize made) is asks)
-  window_answers form optimize (Err e) said asks = tt

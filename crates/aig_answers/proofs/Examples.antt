@@ -1,10 +1,14 @@
 -- Wrong answers, of which the definitions are false: of another step, of a window for which there is
 -- no room, and of a file that asks nothing.
-use Rattle.aig_answers.proofs.Words.{◌≡◌, ℕ, zero, suc, ◌+◌, ◌*◌, Bool, true, false, ◌||◌, None, Some, List, [], ◌∷◌, refl, sym, arith, ◌==◌, false≢true, FALSE, TRUE, NONE, Place, False, Leaf, AigLatch, only_false, edge_to, no_properties, IsRun, IsInitial, Text, File, Accepts, circuit_of, Accepted, Crowded, IsSaidOf, IsVerdictOn, NoBads, Short, IsCircuitSafeAt, Plain, Distinct, asked_verdict, window_size, window_verdict, IsSaid}
+use Rattle.aig_answers.proofs.Words.{◌≡◌, ℕ, zero, suc, ◌+◌, ◌*◌, Bool, true, false, ◌||◌, None, Some, List, [], ◌∷◌, refl, sym, arith, ◌==◌, false≢true, FALSE, TRUE, NONE, Place, False, Leaf, AigLatch, only_false, edge_to, no_properties, IsRun, IsInitial, Text, File, Accepts, circuit_of, Accepted, IsSaidOf, IsVerdictOn, NoBads, Short, IsCircuitSafeAt, Plain, Distinct, asked_verdict, window_size, IsSaid, Ok, Err, Window}
 use Rattle.aig_base.proofs.Words.{◌&&◌}
 use Rattle.aig_circuit.proofs.Words.{Circuit}
 use Rattle.aig_circuit.specs.Tree.{node_value, tree_of}
 use Rattle.aig_format.specs.Numbering.{node_of_variable, variables_in_order}
+use Rattle.aig_answers.specs.Plans.{asked_with, room_of}
+use Rattle.aig_answers.specs.declared.plans.asking.Ask.TheVariants as asks
+use Rattle.aig_answers.specs.declared.plans.asking.Question.{Question}
+use Rattle.aig_answers.specs.declared.plans.errors.PlanError.TheVariants as plans
 
 -- ---- another step
 
@@ -75,30 +79,21 @@ two_latches-size : (bads : List ℕ)
 unfolding node_of_variable variables_in_order
 two_latches-size bads = refl
 
--- for which there is no room where the limit leaves room for one pair
-two_latches-crowded : window_verdict Distinct 5 1 (two_latches (2 ∷ [])) ≡ Crowded
-unfolding node_of_variable variables_in_order
-two_latches-crowded = refl
+-- a plan that asks for such a window
+abbrev window_asked : Window → List Question
+window_asked form = asked_with true (asks.Window 1 form) ∷ []
 
-no_room_for_states : (bytes : List ℕ) → Accepts bytes 5 (two_latches (2 ∷ []))
-    → ¬ IsVerdictOn (window_verdict Distinct 5 1) 5 bytes Accepted
-no_room_for_states bytes accepts on =
-    let said = on.each (two_latches (2 ∷ [])) accepts in
-    let crowded = two_latches-crowded in
-    cc
+-- for which there is no room where the limit leaves room for one pair
+no_room_for_states : room_of 5 (window_asked Distinct) (circuit_of (two_latches (2 ∷ [])))
+    ≡ Err (plans.Crowded 0)
+unfolding node_of_variable variables_in_order
+no_room_for_states = refl
 
 -- the plain form has room
-two_latches-plain : window_verdict Plain 5 1 (two_latches (2 ∷ [])) ≡ Accepted
+room_for_the_plain_form : room_of 5 (window_asked Plain) (circuit_of (two_latches (2 ∷ [])))
+    ≡ Ok tt
 unfolding node_of_variable variables_in_order
-two_latches-plain = refl
-
--- and isn't refused as a window that is too large
-room_for_the_plain_form : (bytes : List ℕ) → Accepts bytes 5 (two_latches (2 ∷ []))
-    → ¬ IsVerdictOn (window_verdict Plain 5 1) 5 bytes Crowded
-room_for_the_plain_form bytes accepts on =
-    let said = on.each (two_latches (2 ∷ [])) accepts in
-    let plain = two_latches-plain in
-    cc
+room_for_the_plain_form = refl
 
 -- a file without bad literals asks nothing
 two_latches-no_bads : asked_verdict 5 2 (two_latches []) ≡ NoBads

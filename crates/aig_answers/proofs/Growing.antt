@@ -1,6 +1,5 @@
 -- Lists of clauses and variables that grow by one.
-use Rattle.aig_answers.proofs.Words.{◌≡◌, ℕ, zero, suc, ◌+◌, ◌<◌, true, false, Result, Ok, Err, List, [], ◌∷◌, ◌++◌, length, take, get_or, refl, sym, ap, ◌∙◌, arith, append_assoc, length-append, replicate, length-replicate, replicate-append-replicate, Lit, lit_to, AigEdge, inverse, difference_clauses, pair_clauses, variables_from}
-use Rattle.std.specs.Prelude.{OnOk}
+use Rattle.aig_answers.proofs.Words.{◌≡◌, ℕ, zero, suc, ◌+◌, ◌<◌, true, false, List, [], ◌∷◌, ◌++◌, length, take, get_or, refl, sym, ap, ◌∙◌, arith, append_assoc, length-append, replicate, length-replicate, replicate-append-replicate, Lit, lit_to, AigEdge, inverse, difference_clauses, pair_clauses, variables_from}
 use Rattle.std.proofs.lemmas.List.{take_all}
 use Rattle.aig_circuit.specs.Edge.{lit_of}
 
@@ -79,8 +78,3 @@ more_step made old now part more before step = step ∙ ap (λ list. list ++ mor
   where
     append_assoc_of : (a b c : List (List Lit)) → (a ++ b) ++ c ≡ a ++ (b ++ c)
     append_assoc_of a b c = rw append_assoc refl
-
--- what holds anyway, holds of an answer
-pub on_ok_given : {T E P : Type 0} (result : Result T E) → P → OnOk result P
-on_ok_given (Ok x) holds = holds
-on_ok_given (Err e) holds = tt

@@ -20,8 +20,6 @@ mod Simulated
 mod Solved
 mod BoundedVerdicts
 mod Refuted
-pub mod Telling
-pub mod PairAnswering
 mod Planning
 mod PlanInstances
 mod PlanRooms

@@ -1,5 +1,5 @@
 -- What is said of a circuit, and of the file that it is of.
-use Rattle.aig_answers.proofs.Words.{◌≡◌, ◌≢◌, ℕ, ◌+◌, ◌≤◌, Bool, true, false, Option, List, [], length, map, refl, sym, ap, subst, ◌∙◌, ◌==◌, nat_lt, if◌then◌else◌, length-map, eqb-false, ltb-false, Circuit, AigEdge, AigLatch, AigNode, circuit_of, edge_of, File, Accepts, ReadError, IsReadAs, Accepted, Crowded, IsOfFile, IsSaidOf, Judges, NoBads, Short, TooLarge, Verdict, of_no_file, refused_again, said_of_read, IsFileCircuit, unrolled_size, Window, IsSaidBy, asked_verdict, circuit_window_verdict, verdict_of, window_size, window_verdict, asks_verdict, circuit_verdict}
+use Rattle.aig_answers.proofs.Words.{◌≡◌, ◌≢◌, ℕ, ◌≤◌, Bool, true, false, Option, List, [], length, map, refl, sym, ap, subst, ◌∙◌, ◌==◌, nat_lt, if◌then◌else◌, length-map, eqb-false, ltb-false, Circuit, AigEdge, AigLatch, AigNode, circuit_of, edge_of, File, Accepts, ReadError, IsReadAs, Accepted, IsOfFile, IsSaidOf, Judges, NoBads, Short, TooLarge, Verdict, of_no_file, refused_again, said_of_read, IsFileCircuit, unrolled_size, IsSaidBy, asked_verdict, asks_verdict, circuit_verdict}
 use Rattle.aig_reader.specs.Verdicts as reading
 
 -- ---- by tests
@@ -21,17 +21,6 @@ module _ (extra : Verdict) where
   asked_by false true is = cc
   asked_by false false is = (refl, refl)
 
-room_of_file : (crowded : Bool) → IsOfFile (if crowded then Crowded else Accepted)
-room_of_file true = tt
-room_of_file false = tt
-
-room_by : (crowded large empty : Bool)
-    → Accepted ≡ said_if large empty (if crowded then Crowded else Accepted) → crowded ≡ false
-room_by crowded true empty is = cc
-room_by crowded false true is = cc
-room_by true false false is = cc
-room_by false false false is = refl
-
 -- ---- of a circuit
 
 asked_said : (large empty : Bool)
@@ -40,13 +29,6 @@ asked_said true empty = refl
 asked_said false true = refl
 asked_said false false = refl
 
-crowded_said : (large empty crowded : Bool) → let room = if crowded then Crowded else Accepted in
-    IsSaidBy (said_if large empty room) (said_if large empty room)
-crowded_said true empty crowded = refl
-crowded_said false true crowded = refl
-crowded_said false false true = refl
-crowded_said false false false = refl
-
 module _ (limit k : ℕ) (c : Circuit) where
   -- the verdict itself is said of the circuit
   pub circuit_said : (v : Verdict) → v ≡ circuit_verdict limit k c
@@ -54,14 +36,6 @@ module _ (limit k : ℕ) (c : Circuit) where
   circuit_said v is =
       subst (IsSaidBy (circuit_verdict limit k c)) (sym is)
       (asked_said (nat_lt limit (unrolled_size c k)) (length c.properties.bads == 0))
-
-  -- and so that on one that is asked for a window
-  pub room_said : (form : Window) (v : Verdict) → v ≡ circuit_window_verdict form limit k c
-      → IsSaidBy (circuit_window_verdict form limit k c) v
-  room_said form v is =
-      subst (IsSaidBy (circuit_window_verdict form limit k c)) (sym is)
-      (crowded_said (nat_lt limit (unrolled_size c (k + 1))) (length c.properties.bads == 0)
-      (nat_lt limit (window_size form c k)))
 
   -- and by its lists
   pub asks_alike : (nodes : List AigNode) (latchs : List AigLatch) (bads : List AigEdge)
@@ -73,9 +47,6 @@ module _ (limit k : ℕ) (c : Circuit) where
   pub circuit_of_file : IsOfFile (circuit_verdict limit k c)
   circuit_of_file = of_file_by Accepted (nat_lt limit (unrolled_size c k)) (length c.properties.bads == 0) tt
 
-  pub window_of_file : (form : Window) → IsOfFile (circuit_window_verdict form limit k c)
-  window_of_file form = of_file_by (if nat_lt limit (window_size form c k) then Crowded else Accepted) (nat_lt limit (unrolled_size c (k + 1))) (length c.properties.bads == 0) (room_of_file (nat_lt limit (window_size form c k)))
-
   -- what is asked has room for its further steps, and a bad edge
   pub read_unrolled : (extra : Verdict)
       → Accepted ≡ said_if (nat_lt limit (unrolled_size c k)) (length c.properties.bads == 0) extra
@@ -83,14 +54,6 @@ module _ (limit k : ℕ) (c : Circuit) where
   read_unrolled extra is =
       let tests = asked_by extra (nat_lt limit (unrolled_size c k)) (length c.properties.bads == 0) is in
       (ltb-false limit (unrolled_size c k) tests.0, λ none. eqb-false (length c.properties.bads) 0 tests.1 (ap length none))
-
-  -- a window that is asked for has room
-  pub window_room : (form : Window) → Accepted ≡ circuit_window_verdict form limit k c
-      → window_size form c k ≤ limit
-  window_room form is =
-      let room = nat_lt limit (window_size form c k) in
-      ltb-false limit (window_size form c k) (room_by room (nat_lt limit (unrolled_size c (k + 1)))
-      (length c.properties.bads == 0) is)
 
 -- ---- of a file
 
@@ -107,12 +70,6 @@ empty_alike f = ap (λ (n : ℕ). n == 0) (length-map f.properties.bads (edge_of
 pub asked_alike : (limit k : ℕ) (f : File)
     → circuit_verdict limit k (circuit_of f) ≡ asked_verdict limit k f
 asked_alike limit k f = ap (λ (empty : Bool). said_if (nat_lt limit (unrolled_size (circuit_of f) k)) empty Accepted) (empty_alike f)
-
-pub window_alike : (form : Window) (limit k : ℕ) (f : File)
-    → circuit_window_verdict form limit k (circuit_of f) ≡ window_verdict form limit k f
-window_alike form limit k f =
-    let room : Verdict = if nat_lt limit (window_size form (circuit_of f) k) then Crowded else Accepted in
-    ap (λ (empty : Bool). said_if (nat_lt limit (unrolled_size (circuit_of f) (k + 1))) empty room) (empty_alike f)
 
 said_of_some : (of v : Verdict) → IsOfFile of → IsSaidBy of v → IsOfFile v
 said_of_some of Short is said = tt

@@ -1,19 +1,16 @@
 -- Words that proofs share, from one place.
 pub use Rattle.aig.specs.Reading.{IsFileCircuit}
-pub use Rattle.aig_answers.specs.Answers.{AreWrittenFrom, AskWith, IsAsked, IsCircuitOf, IsCircuitQuery, IsOfQuery, IsOfWindow, IsSaidBy, IsUnrolledWindow, TellsOfCircuit, TellsOfProof, asked_verdict, circuit_window_verdict, query_with, verdict_of, window_size, window_verdict, without_names}
+pub use Rattle.aig_answers.specs.Answers.{AreWrittenFrom, AskWith, IsAsked, IsCircuitOf, IsCircuitQuery, IsOfQuery, IsSaidBy, IsUnrolledWindow, TellsOfCircuit, TellsOfProof, asked_verdict, query_with, verdict_of, window_size, without_names}
 pub use Rattle.aig_answers.specs.Asking.{AreSaid, AreSolution, AsksBounded, AsksOfBads, IsAskedWithin, IsOfWitness, IsSaidOfBads, IsSettled, RefusesAnswer, RefusesSolution, TellsOfSize, assigned, bounded_verdict, is_true}
-pub use Rattle.aig_answers.specs.Certificates.{IsOfClauses, Obliges, first_verdict, joint_verdict, second_verdict}
 pub use Rattle.aig_answers.specs.CircuitVerdicts.{asks_verdict, circuit_verdict}
 pub use Rattle.aig_answers.specs.Encoded.{HasName, IsEncoded, IsEncodedQuestion}
 pub use Rattle.aig_answers.specs.Naming.{IsNamed, leaf_of}
-pub use Rattle.aig_answers.specs.PairParts.{AsksBoth}
 pub use Rattle.aig_answers.specs.Plans.{AnswersAt, AreRefuted, AreTaken, AreUnread, Covers, HasNone, HasRoom, Includes, IsTooLarge, Makes, Tells, asked_with, plan_certified, plan_each, plan_to, room_by, room_of, size_of, step_questions}
 pub use Rattle.aig_answers.specs.Said.{IsSaid, IsSaidStart, SaysRun, SaysValues, SaysWitness}
 pub use Rattle.aig_answers.specs.Solving.{Begins, HasNoTrueIn, HasPlace, IsBlank, IsConstrained, IsOpenAt, IsReached, IsTrueIn, SaysAll, SaysOnly, WitnessWithin, after, put, start_value, value_at, value_of_init, value_said, with_value}
 pub use Rattle.aig_answers.specs.declared.bounded_checks.clauses.BoundedClauses.{BoundedClauses}
 pub use Rattle.aig_answers.specs.declared.bounded_checks.error.BoundedAnswerError.{BoundedAnswerError}
 pub use Rattle.aig_answers.specs.declared.bounded_checks.naming.Named.{Named}
-pub use Rattle.aig_answers.specs.declared.certificates.error.CertificateError.{CertificateError}
 pub use Rattle.aig_answers.specs.declared.circuits.CircuitQuery.{CircuitQuery}
 pub use Rattle.aig_answers.specs.declared.error.AnswerError.{AnswerError}
 pub use Rattle.aig_answers.specs.declared.plans.asking.Ask.TheVariants.{Step}

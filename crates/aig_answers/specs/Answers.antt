@@ -1,7 +1,7 @@
 -- Part of what is promised.
 -- What is asked of a circuit, what an answer says of the bytes of a file and of a proof, and which
 -- errors a call has.
-use Rattle.std.specs.Prelude.{◌≡◌, ◌≢◌, ℕ, ◌+◌, ◌≤◌, ◌^◌, ◌==◌, nat_lt, if◌then◌else◌, Bool, List, [], ◌++◌, length, replicate, Option, Result, Ok, Err}
+use Rattle.std.specs.Prelude.{◌≡◌, ◌≢◌, ℕ, ◌+◌, ◌≤◌, ◌^◌, ◌==◌, nat_lt, if◌then◌else◌, Bool, List, [], ◌++◌, length, replicate, Option, Result}
 use Rattle.std.specs.FinMap.{empty}
 use Rattle.aig_base.specs.declared.logic.literal.Lit.{Lit}
 use Rattle.aig_base.specs.Clauses.{AreBelow}
@@ -13,13 +13,14 @@ use Rattle.aig_format.specs.Circuit.{circuit_of}
 use Rattle.aig_format.specs.File.{File}
 use Rattle.aig_format.specs.Fits.{Accepts}
 use Rattle.aig_reader.specs.declared.error.ReadError.TheVariants as read
-use Rattle.aig_reader.specs.Verdicts.{Accepted, Crowded, NoBads, Short, TooLarge, Verdict}
+use Rattle.aig_reader.specs.Verdicts.{Accepted, NoBads, Short, TooLarge, Verdict}
 use Rattle.aig_unroll.specs.Places.{unrolled_size}
 use Rattle.aig_unroll.specs.Unroll.{UnrollsTo}
 use Rattle.aig_runs.specs.CircuitQueries.{AsksOfCircuit}
 use Rattle.aig_runs.specs.declared.window.Window.{Window}
 use Rattle.aig_runs.specs.WindowClauses.{AsksWindow, count_free}
 use Rattle.aig_refutation.specs.Checking.{Shows}
+use Rattle.aig_refutation.specs.declared.error.RefutationError.{RefutationError}
 use Rattle.aig_encode.specs.declared.error.EncodeError.TheVariants as encode
 use Rattle.aig_encode.specs.Encoding as encoding
 use Rattle.aig_answers.specs.declared.circuits.CircuitQuery.{CircuitQuery}
@@ -104,51 +105,30 @@ asked_verdict limit k f =
     if nat_lt limit (unrolled_size (circuit_of f) k) then TooLarge
     else if length f.properties.bads == 0 then NoBads else Accepted
 
--- and on one that is asked for a window, which may have more variables than the limit
-abbrev pub window_verdict : Window → ℕ → ℕ → File → Verdict
-window_verdict form limit k f =
-    if nat_lt limit (unrolled_size (circuit_of f) (k + 1)) then TooLarge
-    else if length f.properties.bads == 0 then NoBads
-    else if nat_lt limit (window_size form (circuit_of f) k) then Crowded else Accepted
-
--- ---- circuits that are asked for a window
-
 -- it is this verdict, or Short where that is that the circuit is taken
 abbrev pub IsSaidBy : Verdict → Verdict → Type 0
 IsSaidBy of Short = of ≡ Accepted
 IsSaidBy of v = v ≡ of
 
--- the verdict on a circuit that is asked for a window
-abbrev pub circuit_window_verdict : Window → ℕ → ℕ → Circuit → Verdict
-circuit_window_verdict form limit k c =
-    if nat_lt limit (unrolled_size c (k + 1)) then TooLarge
-    else if length c.properties.bads == 0 then NoBads
-    else if nat_lt limit (window_size form c k) then Crowded else Accepted
-
 -- ---- errors
 
--- what an error says of the bytes: one of a proof, that they are a file that is taken
+-- what an error says of the bytes
 abbrev pub verdict_of : AnswerError → Verdict
 verdict_of (errors.Encode e) = encoding.verdict_of e
 verdict_of errors.NoBads = NoBads
-verdict_of errors.TooLarge = Crowded
-verdict_of (errors.Refutation e) = Accepted
 
 -- ---- proofs
 
 -- which proofs of clauses are taken: the answer is what the text of the proof shows
 abbrev pub TellsOfProof : List (List (List Lit)) → List (List Lit) → Option (List ℕ)
-    → Result (Unit {0}) AnswerError → Type 0
-TellsOfProof lists extra text (Ok done) =
-    Shows (length lists) (clauses_in lists ++ extra) text (Ok done)
-TellsOfProof lists extra text (Err (errors.Refutation e)) =
-    Shows (length lists) (clauses_in lists ++ extra) text (Err e)
-TellsOfProof lists extra text (Err e) = Unit {0}
+    → Result (Unit {0}) RefutationError → Type 0
+TellsOfProof lists extra text answer =
+    Shows (length lists) (clauses_in lists ++ extra) text answer
 
 -- the circuit has a query for step k, and the answer is so of the clauses of each: of those that
 -- any call gives or prints, as there is one (`circuit_clauses_are_one`)
-abbrev pub TellsOfCircuit : ℕ → Bool → Option (List ℕ) → Circuit → Result (Unit {0}) AnswerError
-    → Type 0
+abbrev pub TellsOfCircuit : ℕ → Bool → Option (List ℕ) → Circuit
+    → Result (Unit {0}) RefutationError → Type 0
 TellsOfCircuit k optimize text c answer =
     ((q : CircuitQuery) × IsCircuitQuery c k optimize q)
     × ((q : CircuitQuery) → IsCircuitQuery c k optimize q
@@ -160,12 +140,3 @@ TellsOfCircuit k optimize text c answer =
 abbrev pub IsOfQuery : AnswerError → Type 0
 IsOfQuery (errors.Encode e) = e ≢ encode.Read read.Open
 IsOfQuery errors.NoBads = Unit {0}
-IsOfQuery errors.TooLarge = ⊥
-IsOfQuery (errors.Refutation e) = ⊥
-
--- of a file's window
-abbrev pub IsOfWindow : AnswerError → Type 0
-IsOfWindow (errors.Encode e) = e ≢ encode.Read read.Open
-IsOfWindow errors.NoBads = Unit {0}
-IsOfWindow errors.TooLarge = Unit {0}
-IsOfWindow (errors.Refutation e) = ⊥

@@ -77,7 +77,6 @@ abbrev pub verdict_of : BoundedAnswerError → Verdict
 verdict_of (errors.Read e) = reading.verdict_of e
 verdict_of errors.NoBads = NoBads
 verdict_of (errors.Question e) = Short
-verdict_of (errors.Refutation e) = Accepted
 verdict_of (errors.Solution e) = Accepted
 
 -- ---- errors
@@ -87,7 +86,6 @@ abbrev pub IsOfQuestion : BoundedAnswerError → Type 0
 IsOfQuestion (errors.Read e) = e ≢ read.Open
 IsOfQuestion errors.NoBads = Unit {0}
 IsOfQuestion (errors.Question e) = Unit {0}
-IsOfQuestion (errors.Refutation e) = ⊥
 IsOfQuestion (errors.Solution e) = ⊥
 
 -- of the question and a solver's answer: a witness is made only where it shows a bad state, so that
@@ -96,7 +94,6 @@ abbrev pub IsOfWitness : BoundedAnswerError → Type 0
 IsOfWitness (errors.Read e) = e ≢ read.Open
 IsOfWitness errors.NoBads = Unit {0}
 IsOfWitness (errors.Question e) = Unit {0}
-IsOfWitness (errors.Refutation e) = ⊥
 IsOfWitness (errors.Solution (solutions.Check e)) = ⊥
 IsOfWitness (errors.Solution e) = Unit {0}
 

@@ -5,8 +5,6 @@ pub mod Encoded
 pub mod Naming
 pub mod Solving
 pub mod Said
-pub mod Certificates
-pub mod PairParts
 pub mod Plans
 pub mod Windows
 pub mod Goals

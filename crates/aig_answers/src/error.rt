@@ -7,7 +7,6 @@ ghost use Rattle.aig_encode.specs.declared.error.EncodeError.TheVariants as enco
 use aig::ReadError;
 use aig_base::MemoryError;
 use aig_encode::EncodeError;
-use aig_refutation::RefutationError;
 use thiserror::Error;
 
 /// Why there is no answer.
@@ -19,13 +18,6 @@ pub enum AnswerError {
     /// The file has no bad state property, so that nothing is asked.
     #[error("no bad state property (aigedit bads makes outputs such)")]
     NoBads,
-    /// By the bound of the circuit with its further steps, the clauses and those that tell states
-    /// apart have more variables than the limit.
-    #[error("window may pass the limit")]
-    TooLarge,
-    /// The proof is refused.
-    #[error(transparent)]
-    Refutation(RefutationError),
 }
 
 impl From<ReadError> for AnswerError {
@@ -41,14 +33,6 @@ impl From<EncodeError> for AnswerError {
 
     fn from(error: EncodeError) -> AnswerError {
         AnswerError::Encode(error)
-    }
-}
-
-impl From<RefutationError> for AnswerError {
-    ghost from_gives = { λ e r. r ≡ errors.Refutation e };
-
-    fn from(error: RefutationError) -> AnswerError {
-        AnswerError::Refutation(error)
     }
 }
 

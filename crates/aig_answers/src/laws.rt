@@ -6,12 +6,12 @@ ghost use Rattle.aig_base.specs.Formula.{IsSatisfiable, clauses_in};
 ghost use Rattle.aig_base.specs.declared.logic.literal.Lit.{Lit};
 ghost use Rattle.aig_answers.specs.Answers.{IsCircuitQuery, TellsOfCircuit, TellsOfProof};
 ghost use Rattle.aig_answers.specs.declared.circuits.CircuitQuery.{CircuitQuery};
-ghost use Rattle.aig_answers.specs.declared.error.AnswerError.{AnswerError};
 ghost use Rattle.aig_circuit.specs.Circuit.{Circuit};
 ghost use Rattle.aig_format.specs.Circuit.{circuit_of};
 ghost use Rattle.aig_format.specs.File.{File};
 ghost use Rattle.aig_format.specs.Fits.{Fits};
 ghost use Rattle.aig_format.specs.Machine.{value_of_literal};
+ghost use Rattle.aig_refutation.specs.declared.error.RefutationError.{RefutationError};
 ghost use Rattle.aig_runs.specs.Induction.{IsWindow};
 ghost use Rattle.aig_runs.specs.Safety.{IsGood};
 ghost use Rattle.aig_runs.specs.WindowClauses.{AsksWindow};
@@ -40,7 +40,7 @@ pub fn windows_are_asked()
 /// number of steps and each setting there is one list of them.
 pub fn circuit_clauses_are_one()
     ensures query { (c : Circuit) (k : ℕ) (optimize : Bool) (text : Option (List ℕ))
-        (answer : Result (Unit {0}) AnswerError) (q : CircuitQuery)
+        (answer : Result (Unit {0}) RefutationError) (q : CircuitQuery)
         → IsCircuitQuery c k optimize q → TellsOfProof q.clauses q.extra text answer
         → TellsOfCircuit k optimize text c answer }
 {

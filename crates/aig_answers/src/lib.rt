@@ -4,7 +4,6 @@
 
 mod asks;
 mod bounded_checks;
-mod certificates;
 mod circuits;
 mod clause_parts;
 mod clauses;
@@ -22,7 +21,6 @@ pub use bounded_checks::{
     BoundedAnswerError, BoundedClauses, Named, bounded_clauses_are_one, bounded_witness,
     circuit_questions_are_one, refuted_circuit_questions_are_safe, refuted_questions_are_safe,
 };
-pub use certificates::{CertificateError, Obligations, obligations_of};
 pub use circuits::CircuitQuery;
 pub use clause_parts::{ClauseParts, query_parts, window_parts};
 pub use error::AnswerError;

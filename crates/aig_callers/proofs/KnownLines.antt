@@ -1,5 +1,5 @@
 -- What the contract of `aigcheck` says of words and files that are known.
-use Rattle.aig_base.proofs.Words.{◌≡◌, ℕ, ◌+◌, ◌^◌, ◌<◌, ◌≤◌, Bool, true, false, not, IsTrue, List, [], ◌∷◌, ◌++◌, inl, inr, length, length-append, Option, None, Some, Result, Ok, Err, IfOk, Appends, IsAtEnd, refl, sym, ap, subst, ◌∙◌, arith, ◌==◌, false≢true, codes}
+use Rattle.aig_base.proofs.Words.{◌≡◌, ℕ, ◌+◌, ◌^◌, ◌<◌, ◌≤◌, Bool, true, false, IsTrue, List, [], ◌∷◌, ◌++◌, inl, inr, length, length-append, Option, None, Some, Result, Ok, Err, IfOk, Appends, IsAtEnd, refl, sym, ap, subst, ◌∙◌, arith, ◌==◌, false≢true, codes}
 use Rattle.std.specs.Prelude.{decimal, replicate, slice_index, take}
 use Rattle.std.proofs.lemmas.Fmt.{decimal_digit}
 use Rattle.aig_format.specs.File.{File}
@@ -34,17 +34,18 @@ use Rattle.aig_check_commands.specs.declared.command.FileCommand.TheVariants as 
 use Rattle.aig_check_commands.specs.declared.justice.Justice.{Justice}
 use Rattle.aig_check_commands.specs.declared.error.CheckError.{CheckError}
 use Rattle.aig_check_commands.specs.Acting.{Acts, RanAll, RanOn}
-use Rattle.aig_check_commands.specs.CommandWords.{AreCommand, FitNone, IsAlone, IsCall, IsWhole, command_of, equal_name, form_of, name_of, path_count, paths_of, prints, raw_alone, raw_word}
-use Rattle.aig_check_commands.specs.Inputs.{Ran}
+use Rattle.aig_check_commands.specs.CommandWords.{AreCommand, FitNone, IsAlone, IsCall, IsWhole, command_of, equal_name, form_of, name_of, path_count, paths_of, raw_alone, raw_word}
 use Rattle.aig_check_commands.specs.Justice.{AreJustice, is_asked, made_for, subject_of}
 use Rattle.aig_check_commands.specs.Checked.{RunsGoal, answer_of}
-use Rattle.aig_check_commands.specs.Goals.{line_of, no_run_line, safe_line}
-use Rattle.aig_check_commands.specs.Living.{MeansMade, RanMade}
-use Rattle.aig_edit_laws.specs.Fair.{HasFairRun}
+use Rattle.aig_check_commands.specs.Goals.{line_of}
+use Rattle.aig_check_commands.specs.Simulating.{RunsSimulated}
+use Rattle.aig_simulated.specs.Simulated.{Proofs, proofs_of}
+use Rattle.aig_subjects.specs.declared.subject.FileSubject.{FileSubject}
+use Rattle.aig_subjects.specs.declared.subject.FileSubject.TheVariants.{Own}
 use Rattle.aig_check_commands.specs.Opening.{AreOpened, OnOpening, OpensAll, unopened}
 use Rattle.aig_check_commands.specs.Running.{Answers, IsAskedBy}
 use Rattle.aig_check_commands.proofs.Outcomes.{text_of_printed}
-use Rattle.aig_callers.specs.Instances.{AreFilesOf, AreNamed, IsOf, Shows, ShowsAsked, ShowsGoal}
+use Rattle.aig_callers.specs.Instances.{AreFilesOf, AreNamed, IsOf, Shows, ShowsAsked, ShowsGoal, ShowsSimulated}
 use Rattle.aig_callers.proofs.Asking.{all_taken}
 use Rattle.aig_callers.proofs.Text.{all_held}
 
@@ -232,47 +233,30 @@ module _ {F W : Type 0} (file other : List ℕ) (left : F → Option (List ℕ))
           goal_shown (subjects.MiterCertified comparison) goal base step r files after proofs used u
           is beside ran
 
-      ran_shown : (c : Command) (r rest : F) (files others : List F) (u : Unit {0})
-          → left r ≡ Some file
-          → Ran left failed left failed held write_failed (2 ^ 24) c r files w (Ok u) rest others
-          made
-          → Shows c file other out
-      ran_shown (commands.File c) r rest (p ∷ []) (used ∷ []) u is ran =
+      -- a command on FILE itself was run
+      file_shown : (c : FileCommand) (r rest p used : F) (u : Unit {0}) → left r ≡ Some file
+          → RanAll left failed held write_failed (2 ^ 24) None (commands.File c) (r ∷ p ∷ []) w (Ok u)
+          (rest ∷ used ∷ []) made
+          → Shows (commands.File c) file other out
+      file_shown c r rest p used u is ran =
           let told = text_of_printed ran in
           let of = read_of r rest is (asked_file c) told.1.text (told.1.verdict.whole tt).1 in (
             of.0,
             of.1,
             (left p, subst (Answers c (left p) of.0) (sym (whole told.0 told.2)) of.2),
           )
-      ran_shown (commands.Simulated o) r rest (s ∷ a ∷ b ∷ c ∷ d ∷ e ∷ [])
-          (next ∷ a_rest ∷ b_rest ∷ c_rest ∷ d_rest ∷ e_rest ∷ []) u is ran =
-          let of = read_of r rest is (λ bytes f holds. holds) (ran.reads.answer refl refl)
-          (ran.reads.verdict.whole tt).1 in
-          (of.0, of.1, (whole safe_line of.2.means.1, of.2.means.0.1))
-      ran_shown (commands.Print q) r rest files others u is ran = tt
-      ran_shown (commands.Pair c) r rest files others u is ran = tt
-      ran_shown (commands.Obligation condition o) r rest files others u is ran = tt
-      ran_shown c r rest files others u is ran = absurd ran
 
-      -- a line about a justice property was written
-      fair_told : (b : Bool) (c : Command) (a : Justice) (files others : List F) (u : Unit {0})
-          (f : File) (text : List ℕ) → IsTrue (not b)
-          → MeansMade b left failed held write_failed (2 ^ 24) a.property c files others w made f
-          text (Ok u)
-          → (out ≡ no_run_line a.property) × ¬ HasFairRun f a.property
-      fair_told true c a files others u f text checks told = absurd (false≢true checks)
-      fair_told false c a files others u f text checks told =
-          (whole (no_run_line a.property) told.2, told.1)
-
-      fair_shown : (a : Justice) (c : Command) (r rest : F) (files others : List F) (u : Unit {0})
-          → left r ≡ Some file → IsTrue (not (prints c))
-          → RanMade left failed left failed held write_failed (2 ^ 24) a c r files w (Ok u) rest
-          others made
-          → IsOf file (λ f. (out ≡ no_run_line a.property) × ¬ HasFairRun f a.property)
-      fair_shown a c r rest files others u is checks ran =
-          let of = read_of r rest is (λ bytes f holds. holds) (ran.reads.answer refl)
-          (ran.reads.verdict.whole tt).1 in
-          (of.0, of.1, fair_told (prints c) c a files others u of.0 _ checks of.2.2)
+      -- proofs were checked of a witness circuit
+      simulated_shown : (own : FileSubject) (optimize : Bool) (r rest s next : F)
+          (ps used : Proofs F) (u : Unit {0}) → left r ≡ Some file
+          → RunsSimulated left failed left failed left failed held write_failed (2 ^ 24) own optimize
+          r s ps w (Ok u) rest next used made
+          → ShowsSimulated own file out
+      simulated_shown own optimize r rest s next ps used u is ran =
+          let told = text_of_printed ran in
+          let of = read_of r rest is (λ bytes f holds. holds) (told.1.reads.answer refl refl)
+          (told.1.reads.verdict.whole tt).1 in
+          (of.0, of.1, (whole told.0 told.2 ∙ of.2.means.1, of.2.means.0.0))
 
       -- what was done with the files is so of FILE and OTHER
       all_shown : (a : Option Justice) (c : Command) (r : F) (files others : List F) (u : Unit {0})
@@ -283,13 +267,20 @@ module _ {F W : Type 0} (file other : List ℕ) (left : F → Option (List ℕ))
           check_shown None subject goal base step r files _ _ _ u is beside ran
       all_shown (Some a) (commands.Check subject goal base step) r files others u is beside ran =
           λ checks. check_shown (Some a) subject goal base step r files _ _ _ u is beside ran
-      all_shown a c r files [] u is beside ran = absurd ran
-      all_shown None c r files (rest ∷ others) u is beside ran =
-          ran_shown c r rest files others u is ran
-      all_shown (Some a) (commands.Print q) r files (rest ∷ others) u is beside ran =
-          λ checks. absurd (false≢true checks)
-      all_shown (Some a) c r files (rest ∷ others) u is beside ran =
-          λ checks. fair_shown a c r rest files others u is checks ran
+      all_shown None (commands.Simulated o) r (s ∷ a ∷ b ∷ c ∷ d ∷ e ∷ [])
+          (rest ∷ next ∷ a_rest ∷ b_rest ∷ c_rest ∷ d_rest ∷ e_rest ∷ []) u is beside ran =
+          simulated_shown Own o r rest s next (proofs_of a b c d e)
+          (proofs_of a_rest b_rest c_rest d_rest e_rest) u is ran
+      all_shown (Some j) (commands.Simulated o) r (s ∷ a ∷ b ∷ c ∷ d ∷ e ∷ [])
+          (rest ∷ next ∷ a_rest ∷ b_rest ∷ c_rest ∷ d_rest ∷ e_rest ∷ []) u is beside ran =
+          λ checks. simulated_shown (made_for j) o r rest s next (proofs_of a b c d e)
+          (proofs_of a_rest b_rest c_rest d_rest e_rest) u is ran
+      all_shown a (commands.Simulated o) r files others u is beside ran = absurd ran
+      all_shown None (commands.File c) r (p ∷ []) (rest ∷ used ∷ []) u is beside ran =
+          file_shown c r rest p used u is ran
+      all_shown None (commands.File c) r files others u is beside ran = absurd ran
+      all_shown None c r files others u is beside ran = tt
+      all_shown (Some a) c r files others u is beside ran = λ checks. tt
 
       on_shown : (c : Asked) (paths further : List (List ℕ)) (files others : List F) (u : Unit {0})
           → AreNamed (paths_of c.command) paths → AreOpened OpensFiles (paths ++ further) files

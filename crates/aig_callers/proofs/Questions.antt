@@ -12,6 +12,7 @@ use Rattle.aig_refutation.specs.Checking.{Shows}
 use Rattle.aig_refutation.specs.declared.error.RefutationError.{RefutationError}
 use Rattle.aig_runs.specs.declared.window.Window.TheVariants.{Plain}
 use Rattle.aig_subjects.specs.Reads.{AreReadAs}
+use Rattle.aig_subjects.specs.Subjects.{IsSubject}
 use Rattle.aig_subjects.specs.declared.subject.FileSubject.TheVariants.{Own}
 use Rattle.aig_subjects.specs.declared.subject.Subject.TheVariants as subjects
 use Rattle.aig_answers.specs.Answers.{IsCircuitQuery, query_with}
@@ -26,7 +27,6 @@ use Rattle.aig_answers.specs.declared.plans.asking.Ask.{Ask}
 use Rattle.aig_answers.specs.declared.plans.asking.Ask.TheVariants as asks
 use Rattle.aig_answers.specs.declared.plans.asking.Question.{Question}
 use Rattle.aig_answers.specs.declared.plans.errors.PlanError.TheVariants as plans
-use Rattle.aig_answers.specs.declared.plans.errors.Refused.{Refused}
 use Rattle.aig_answers.specs.declared.plans.errors.Why.{Why}
 use Rattle.aig_answers.specs.declared.plans.errors.Why.TheVariants as whys
 use Rattle.aig_answers.specs.declared.windows.WindowClauses.{WindowClauses}
@@ -121,7 +121,9 @@ module _ (laws : Laws) (one : SpellOne) (limit : ℕ) (file beside : List ℕ) (
     -- ---- a certificate
 
     module _ (clauses_are_one : ClausesAreOne) (optimize : Bool) (text base step : List ℕ)
-        (printed : IsObligationsText optimize (Some file) (Some beside) f g text) (p q : P)
+        (m : Circuit) (of : IsSubject (subjects.Certified Own) (f ∷ g ∷ []) m)
+        (sum sum_beside : List ℕ)
+        (printed : IsObligationsText optimize m sum sum_beside text) (p q : P)
         (base_known : given p ≡ Some base) (step_known : given q ≡ Some step) where
       abbrev IsCertified : Result (Unit {0}) GoalFault → List S → List P → Type 0
       IsCertified x after used =
@@ -132,36 +134,36 @@ module _ (laws : Laws) (one : SpellOne) (limit : ℕ) (file beside : List ℕ) (
       plan = asked_with optimize (asks.Step 0) ∷ asked_with optimize (asks.Window 0 Plain) ∷ []
 
       -- the clauses that were printed are those of the subject's circuit
-      base_asked : IsAskedBy (asked_with optimize (asks.Step 0)) printed.asked.whole printed.base
+      base_asked : IsAskedBy (asked_with optimize (asks.Step 0)) m printed.base
       base_asked = record {
         made = printed.base_clauses;
         again = printed.base_again;
         only = λ other asked. same_Some _ _
-            (clauses_are_one (asks.Step 0) optimize printed.asked.whole (Some printed.base_clauses)
-            (Some other) (printed.asked.unrolled, printed.asked.base) asked);
+            (clauses_are_one (asks.Step 0) optimize m (Some printed.base_clauses)
+            (Some other) printed.base_asks asked);
       }
 
-      step_asked : IsAskedBy (asked_with optimize (asks.Window 0 Plain)) printed.asked.whole
+      step_asked : IsAskedBy (asked_with optimize (asks.Window 0 Plain)) m
           printed.step
       step_asked = record {
         made = printed.step_clauses;
         again = printed.step_again;
         only = λ other asked. same_Some _ _
-            (clauses_are_one (asks.Window 0 Plain) optimize printed.asked.whole
-            (Some printed.step_clauses) (Some other) printed.asked.step asked);
+            (clauses_are_one (asks.Window 0 Plain) optimize m
+            (Some printed.step_clauses) (Some other) printed.step_asks asked);
       }
 
       part_taken : (used : List P) (n : ℕ) (why : Why) → IsProofOf printed.base base
           → IsProofOf printed.step step
-          → AnswersAt given given_failed limit plan printed.asked.whole (p ∷ q ∷ []) used n (Err why)
+          → AnswersAt given given_failed limit plan m (p ∷ q ∷ []) used n (Err why)
           → IsOfWhy why
       part_taken used zero why first second at =
           at_place laws limit given given_failed (asked_with optimize (asks.Step 0))
-          printed.asked.whole printed.base base base_asked first p base_known plan (p ∷ q ∷ []) used 0
+          m printed.base base base_asked first p base_known plan (p ∷ q ∷ []) used 0
           why refl refl at
       part_taken used (suc zero) why first second at =
           at_place laws limit given given_failed (asked_with optimize (asks.Window 0 Plain))
-          printed.asked.whole printed.step step step_asked second q step_known plan (p ∷ q ∷ [])
+          m printed.step step step_asked second q step_known plan (p ∷ q ∷ [])
           used 1 why refl refl at
       part_taken used (suc (suc n)) why first second at = let no = at.asked in cc
 
@@ -174,8 +176,8 @@ module _ (laws : Laws) (one : SpellOne) (limit : ℕ) (file beside : List ℕ) (
           (TellsOfGoal given given_failed limit (subjects.Certified Own) (goals.SafeBySteps 0 Plain)
           optimize optimize (p ∷ q ∷ []) used) (Err (faults.Plan (plans.Refused e))) after
           checks.reads.reads in
-          let same : told.0 ≡ printed.asked.whole = told.1.2.joint
-          ∙ ap (λ c. certified c (circuit_of g)) told.1.1 ∙ sym printed.asked.joint.joint in
+          let same : told.0 ≡ m = told.1.2.joint
+          ∙ ap (λ c. certified c (circuit_of g)) (told.1.1 ∙ sym of.1) ∙ sym of.2.joint in
           part_taken used e.index e.why first second
           (subst (λ c. AnswersAt given given_failed limit plan c (p ∷ q ∷ []) used e.index
           (Err e.why)) same told.2.1.1)
@@ -188,7 +190,7 @@ module _ (laws : Laws) (one : SpellOne) (limit : ℕ) (file beside : List ℕ) (
           (formula_of printed.base_clauses) in
           let second = dimacs_of (length printed.step_clauses.clauses)
           (formula_of printed.step_clauses) in
-          let title = title_text (pair_title optimize printed.sum printed.beside) in
+          let title = title_text (pair_title optimize sum sum_beside) in
           record {
             title = title;
             first = first;

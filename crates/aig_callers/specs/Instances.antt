@@ -5,18 +5,21 @@ use Rattle.aig_answers.specs.Goals as showing
 use Rattle.aig_answers.specs.declared.goals.goal.Goal.{Goal}
 use Rattle.aig_format.specs.File.{File}
 use Rattle.aig_format.specs.Fits.{Accepts}
-use Rattle.aig_runs.specs.Queries.{IsSafeTo}
+use Rattle.aig_subjects.specs.Shown.{FileShowsAlways}
+use Rattle.aig_subjects.specs.declared.subject.FileSubject.{FileSubject}
+use Rattle.aig_subjects.specs.declared.subject.FileSubject.TheVariants.{Own}
 use Rattle.aig_subjects.specs.declared.subject.Subject.{Subject}
 use Rattle.aig_subjects.specs.declared.subject.Subject.TheVariants as subjects
 use Rattle.aig_check_commands.specs.CommandWords.{IsCall, paths_of, prints}
-use Rattle.aig_check_commands.specs.Goals.{line_of, no_run_line, safe_line}
-use Rattle.aig_check_commands.specs.Justice.{subject_of}
+use Rattle.aig_check_commands.specs.Goals.{line_of}
+use Rattle.aig_check_commands.specs.Justice.{made_for, subject_of}
 use Rattle.aig_check_commands.specs.Running.{Answers}
+use Rattle.aig_check_commands.specs.Simulating.{simulated_line}
 use Rattle.aig_check_commands.specs.declared.command.Asked.{Asked}
 use Rattle.aig_check_commands.specs.declared.command.Command.{Command}
 use Rattle.aig_check_commands.specs.declared.command.Command.TheVariants as commands
 use Rattle.aig_check_commands.specs.declared.justice.Justice.{Justice}
-use Rattle.aig_edit_laws.specs.Fair.{HasFairLasso, HasFairRun}
+use Rattle.aig_edit_laws.specs.Fair.{HasFairLasso}
 
 -- the bytes are a file, and this is so of it
 abbrev pub IsOf : List ℕ → (File → Type 0) → Type 0
@@ -45,22 +48,26 @@ ShowsGoal subject goal file other text =
     AreFilesOf subject file other
     (λ files. (text ≡ line_of subject goal) × showing.Shows subject goal files)
 
+-- the line is that of a witness circuit, which is so of FILE
+abbrev pub ShowsSimulated : FileSubject → List ℕ → List ℕ → Type 0
+ShowsSimulated own file text = IsOf file (λ f. (text ≡ simulated_line own) × FileShowsAlways own f)
+
 -- what is so of FILE and OTHER after a command on them, or on FILE alone, printed a text
 abbrev pub Shows : Command → List ℕ → List ℕ → List ℕ → Type 0
 Shows (commands.File c) file other text =
     IsOf file (λ f. (given : Option (List ℕ)) × Answers c given f text)
 Shows (commands.Check subject goal base step) file other text =
     ShowsGoal subject goal file other text
-Shows (commands.Simulated optimize) file other text =
-    IsOf file (λ f. (text ≡ safe_line) × ((n : ℕ) → IsSafeTo f n))
+Shows (commands.Simulated optimize) file other text = ShowsSimulated Own file text
 Shows c file other text = Unit {0}
 
 -- what is so of them where a command that checks asked about a justice property
 abbrev pub ShowsFair : Command → Justice → List ℕ → List ℕ → List ℕ → Type 0
 ShowsFair (commands.Check subject goal base step) a file other text =
     ShowsGoal (subject_of (Some a) subject) goal file other text
-ShowsFair c a file other text =
-    IsOf file (λ f. (text ≡ no_run_line a.property) × ¬ HasFairRun f a.property)
+ShowsFair (commands.Simulated optimize) a file other text =
+    ShowsSimulated (made_for a) file text
+ShowsFair c a file other text = Unit {0}
 
 -- so where a justice property may be asked about
 abbrev pub ShowsAsked : Asked → List ℕ → List ℕ → List ℕ → Type 0

@@ -1,10 +1,10 @@
 -- Serves private clauses alone.
 -- What the programs print of files that lie in memory.
-use Rattle.std.specs.Prelude.{◌≡◌, ℕ, ◌^◌, Bool, List, [], ◌∷◌, Ok, Some}
+use Rattle.std.specs.Prelude.{◌≡◌, ℕ, ◌^◌, Bool, List, [], ◌∷◌, Ok}
 use Rattle.aig_answers.specs.declared.plans.asking.Question.{Question}
 use Rattle.aig_check_commands.specs.Pairs.{IsObligationsText}
 use Rattle.aig_check_commands.specs.Questions.{IsQuestionText}
-use Rattle.aig_answers.specs.Plans.{room_of}
+use Rattle.aig_answers.specs.Plans.{plan_certified, room_of}
 use Rattle.aig_circuit.specs.Circuit.{Circuit}
 use Rattle.aig_tool_commands.specs.Running.{IsTextOf}
 use Rattle.aig_edits.specs.Joints.{IsJointOf}
@@ -17,6 +17,9 @@ use Rattle.aig_encode.specs.declared.query_clauses.Query.{Query}
 use Rattle.aig_format.specs.Circuit.{circuit_of, text_of}
 use Rattle.aig_format.specs.File.{File}
 use Rattle.aig_format.specs.Fits.{Accepts}
+use Rattle.aig_subjects.specs.Subjects.{IsSubject}
+use Rattle.aig_subjects.specs.declared.subject.FileSubject.TheVariants.{Own}
+use Rattle.aig_subjects.specs.declared.subject.Subject.TheVariants as subjects
 use Rattle.sha2.specs.Sha256.{sha256}
 
 -- that of a question of FILE, where FILE has these bytes
@@ -29,7 +32,9 @@ IsQuestionTextOf q file text =
 abbrev pub AreObligationsOf : Bool → List ℕ → List ℕ → List ℕ → Type 0
 AreObligationsOf optimize file certificate text =
     (f : File) × (g : File) × Accepts file (2 ^ 24) f × Accepts certificate (2 ^ 24) g
-    × IsObligationsText optimize (Some file) (Some certificate) f g text
+    × ((m : Circuit) × IsSubject (subjects.Certified Own) (f ∷ g ∷ []) m
+    × (room_of (2 ^ 24) (plan_certified optimize) m ≡ Ok tt)
+    × IsObligationsText optimize m (sha256 file) (sha256 certificate) text)
 
 -- how files are compared: on runs that meet the constraints of both, whose registers with open
 -- start begin each as it likes

@@ -101,7 +101,8 @@ fn obligations_text(
 {
     let mut out = FlushedWriter::new(Vec::new(alloc));
     let (file, certificate) = (source_of(file), source_of(certificate));
-    print_obligations(alloc, LIMIT, optimize, file, certificate, &mut out)?;
+    let own = FileSubject::Own;
+    print_obligations(alloc, LIMIT, own, optimize, file, certificate, &mut out)?;
     Ok(out.into_inner())
 }
 

@@ -1,6 +1,6 @@
 -- Statuses of errors, numbers of clauses and what calls leave in the caller's memory, computed; and
 -- wrong ones, of which the definitions are false.
-use Rattle.aig_calls.proofs.Words.{◌≡◌, ◌≢◌, ℕ, ◌<◌, ◌^◌, true, false, Some, Ok, Err, Result, List, [], ◌∷◌, codes, slice_index, refl, sym, ap, ◌∙◌, arith, same_Some, ℤ, pos, negsuc, lit_to, Base, Step, AtStep, Bool, LIMIT, GivesItems, GivesListing, IsGiven, Prints, TellsBad, TellsLasso, form_of, Writer, held, clause_numbers, dimacs_number}
+use Rattle.aig_calls.proofs.Words.{◌≡◌, ◌≢◌, ℕ, ◌<◌, ◌^◌, true, false, Some, Ok, Err, Result, List, [], ◌∷◌, codes, slice_index, refl, sym, ap, ◌∙◌, arith, same_Some, ℤ, pos, negsuc, lit_to, Base, Step, AtStep, Bool, LIMIT, GivesItems, GivesListing, IsGiven, Prints, TellsBad, TellsLasso, form_of, Writer, held, clause_numbers, dimacs_number, DONE, SMALL, read_status}
 use Rattle.aig_answers.specs.declared.error.AnswerError.{AnswerError}
 use Rattle.aig_answers.specs.declared.error.AnswerError.TheVariants as answers
 use Rattle.aig_answers.specs.Goals.{ChecksGoal}
@@ -28,7 +28,7 @@ use Rattle.aig_witness.specs.declared.fair.file.ShownProperty.TheVariants as pro
 use Rattle.aig_witness.specs.declared.fault.WitnessFault.TheVariants as faults
 use Rattle.aig_witness.specs.declared.file.ShowError.TheVariants as shows
 use Rattle.aig_witness.specs.declared.file.Shown.{Shown}
-use Rattle.aig_calls.specs.Statuses.{answer_status, claim_status, done, goal_status, many_steps, pair_status, read_status, show_status, simulation_status, small}
+use Rattle.aig_calls.specs.Statuses.{answer_status, claim_status, goal_status, many_steps, pair_status, show_status, simulation_status}
 
 -- ---- statuses
 
@@ -124,7 +124,7 @@ abbrev two : List ℕ
 two = 7 ∷ 8 ∷ []
 
 -- two items before what was there
-fitting : IsGiven done two (1 ∷ 2 ∷ 3 ∷ []) (7 ∷ 8 ∷ 3 ∷ []) 2
+fitting : IsGiven DONE two (1 ∷ 2 ∷ 3 ∷ []) (7 ∷ 8 ∷ 3 ∷ []) 2
 fitting = record {
   count = refl;
   whole = λ is. refl;
@@ -134,17 +134,17 @@ fitting = record {
 
 -- what was behind them is cleared, and room is missed that is there
 no_rest_cleared : (needed : ℕ)
-    → ¬ IsGiven done two (1 ∷ 2 ∷ 3 ∷ []) (7 ∷ 8 ∷ 0 ∷ []) needed
+    → ¬ IsGiven DONE two (1 ∷ 2 ∷ 3 ∷ []) (7 ∷ 8 ∷ 0 ∷ []) needed
 no_rest_cleared needed given =
     let rest : 0 ≡ 3 = ap third (given.whole refl) in omega (arith, rest)
 
 no_room_missed : (new : List ℕ) (needed : ℕ)
-    → ¬ IsGiven small two (1 ∷ 2 ∷ 3 ∷ []) new needed
+    → ¬ IsGiven SMALL two (1 ∷ 2 ∷ 3 ∷ []) new needed
 no_room_missed new needed given =
     let room : 3 < 2 = (given.short refl).0 in omega (arith, room)
 
 -- a beginning is written where both don't fit, and that room is told as what is needed
-no_beginning_written : (needed : ℕ) → ¬ IsGiven small two (1 ∷ []) (7 ∷ []) needed
+no_beginning_written : (needed : ℕ) → ¬ IsGiven SMALL two (1 ∷ []) (7 ∷ []) needed
 no_beginning_written needed given =
     let item : 7 ≡ 1 = ap (λ items. slice_index items 0) (given.short refl).1 in
     omega (arith, item)
@@ -176,7 +176,7 @@ no_bad_written status before step told = let bad : 0 ≡ 9 = told.1 in omega (ar
 
 -- a witness of a bad state is told as one of a lasso
 no_lasso_of_bad : (had justice before start at last : ℕ)
-    → ¬ TellsLasso (Ok (properties.Bad shown)) done had justice before start at last
+    → ¬ TellsLasso (Ok (properties.Bad shown)) DONE had justice before start at last
 no_lasso_of_bad had justice before start at last told =
     let status : 0 ≡ 64 = told.0 in omega (arith, status)
 
@@ -196,11 +196,11 @@ distinct-form : (form_of true ≡ Distinct) × (form_of false ≡ Plain)
 distinct-form = (refl, refl)
 
 -- step 2^32 is answered, and the one before it is refused
-no_answer_past_steps : ¬ AtStep (2 ^ 32) done (Unit {0}) (Unit {0})
+no_answer_past_steps : ¬ AtStep (2 ^ 32) DONE (Unit {0}) (Unit {0})
 no_answer_past_steps told =
     let status : 0 ≡ 4 = (told.0 (omega arith)).0 in omega (arith, status)
 
-no_refusal_below : ¬ AtStep 4294967295 many_steps (Unit {0}) (many_steps ≡ done)
+no_refusal_below : ¬ AtStep 4294967295 many_steps (Unit {0}) (many_steps ≡ DONE)
 no_refusal_below told = let status : 4 ≡ 0 = told.1 (omega arith) in omega (arith, status)
 
 -- ---- checks

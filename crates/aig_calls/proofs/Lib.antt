@@ -1,5 +1,4 @@
 mod Words
 pub mod Examples
 mod Given
-mod Listing
 mod Placing

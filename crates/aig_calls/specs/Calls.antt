@@ -2,17 +2,16 @@
 -- What a call does, by the bytes that it is given: what the program's command, or the library's
 -- call, of the same name does with them, a status for its result, and what is left in the caller's
 -- memory.
-use Rattle.std.specs.Prelude.{◌≡◌, ℕ, ◌<◌, ◌≤◌, ◌^◌, ◌++◌, if◌then◌else◌, Bool, List, length, drop, Option, None, Some, Result, Ok, Err, IfErr, IfOk, ℤ}
+use Rattle.std.specs.Prelude.{◌≡◌, ℕ, ◌<◌, ◌≤◌, ◌^◌, if◌then◌else◌, Bool, List, Some, Result, Ok, Err, IfErr, IfOk, ℤ}
 use Rattle.aig_answers.specs.Answers as answering
 use Rattle.aig_answers.specs.Answers.{IsAsked, IsOfQuery, asked_verdict}
 use Rattle.aig_answers.specs.declared.error.AnswerError.{AnswerError}
-use Rattle.aig_check_commands.specs.Pairs.{RunsPair}
+use Rattle.aig_check_commands.specs.Pairs.{RunsObligations}
 use Rattle.aig_answers.specs.declared.plans.asking.Question.{Question}
 use Rattle.aig_check_commands.specs.Questions.{RunsQuestion}
 use Rattle.aig_subjects.specs.declared.subject.FileSubject.TheVariants as file_subjects
 use Rattle.aig_check_commands.specs.Running.{Runs}
 use Rattle.aig_check_commands.specs.declared.command.FileCommand.{FileCommand}
-use Rattle.aig_check_commands.specs.declared.command.PairCommand.{PairCommand}
 use Rattle.aig_check_commands.specs.declared.error.CheckError.{CheckError}
 use Rattle.aig_tool_commands.specs.Running as tool
 use Rattle.aig_tool_commands.specs.declared.command.Command.{Command}
@@ -36,6 +35,8 @@ use Rattle.aig_witness.specs.declared.fair.file.ShownProperty.{ShownProperty}
 use Rattle.aig_witness.specs.declared.fair.file.ShownProperty.TheVariants as properties
 use Rattle.aig_format.specs.File.{File}
 use Rattle.aig_format.specs.Fits.{Accepts}
+use Rattle.aig_giving.specs.Given.{IsGiven}
+use Rattle.aig_giving.specs.declared.status.TheConstants.{DONE}
 use Rattle.aig_reader.specs.Reading.{IsReadAs}
 use Rattle.aig_reader.specs.Verdicts.{Accepted, Judges, Verdict, verdict_by}
 use Rattle.aig_runs.specs.declared.window.Window.{Window}
@@ -46,7 +47,7 @@ use Rattle.aig_witness.specs.declared.file.ShowError.{ShowError}
 use Rattle.aig_witness.specs.declared.file.Shown.{Shown}
 use Rattle.aig_calls.specs.Numbers.{IsListing, Listing}
 use Rattle.aig_calls.specs.Memory.{Into, On, Reader, Writer, bytes_of, has_failed, held, write_failed}
-use Rattle.aig_calls.specs.Statuses.{answer_status, claim_status, done, many_steps, show_status, small, witness_bad}
+use Rattle.aig_calls.specs.Statuses.{answer_status, claim_status, many_steps, show_status, witness_bad}
 
 -- ---- words
 
@@ -77,13 +78,13 @@ RunsOn limit c file given result w made =
     Runs bytes_of has_failed bytes_of has_failed held write_failed c limit r p w result rest used
     made))
 
--- or on those of two files
-abbrev pub RunsOnPair : ℕ → PairCommand → List ℕ → List ℕ → Result Unit CheckError → Writer
-    → Writer → Type 0
-RunsOnPair limit c file other result w made =
+-- or the clauses of a certificate were printed of those of two files
+abbrev pub RunsCertificate : ℕ → Bool → List ℕ → List ℕ → Result Unit CheckError → Writer → Writer
+    → Type 0
+RunsCertificate limit optimize file other result w made =
     On file (λ r rest. On other (λ s left.
-    RunsPair bytes_of has_failed bytes_of has_failed held write_failed c limit r s w result rest
-    left made))
+    RunsObligations bytes_of has_failed held write_failed limit file_subjects.Own optimize r s w
+    result rest left made))
 
 -- a call was made that reads these bytes as a file
 abbrev pub Reads : {T E : Type 0} → ℕ → (File → Result T E → Type 0) → (E → Verdict)
@@ -165,14 +166,6 @@ pub record Lists (limit k : ℕ) (optimize : Bool) (r rest : Reader)
 
 -- ---- what is told
 
--- What an answer of these items leaves in its caller's memory: they are put at its front, and else,
--- where they don't fit, it stays as it was. `needed` says in both cases how many there are.
-pub record IsGiven {X : Type 0} (status : ℕ) (items old new : List X) (needed : ℕ) : Type 0 where
-  pub count : needed ≡ length items
-  pub whole : status ≡ done → new ≡ items ++ drop (length items) old
-  pub short : status ≡ small → (length old < length items) × (new ≡ old)
-  pub only : status < 2
-
 -- the items are given; without an answer the memory stays as it was
 abbrev pub GivesItems : {X E : Type 0} → (E → ℕ) → Result (List X) E → ℕ → List X → List X → ℕ → ℕ
     → Type 0
@@ -190,7 +183,7 @@ GivesResult {X} of Does status old new before needed =
 -- which bad state is shown, and at which step; else both numbers stay
 abbrev pub TellsBad : Result Shown ShowError → ℕ → ℕ → ℕ → ℕ → ℕ → Type 0
 TellsBad (Ok shown) status had bad before step =
-    (status ≡ done) × (bad ≡ shown.bad) × (step ≡ shown.step)
+    (status ≡ DONE) × (bad ≡ shown.bad) × (step ≡ shown.step)
 TellsBad (Err e) status had bad before step =
     (status ≡ show_status e) × (bad ≡ had) × (step ≡ before)
 
@@ -198,7 +191,7 @@ TellsBad (Err e) status had bad before step =
 -- stay
 abbrev pub TellsLasso : Result ShownProperty ClaimError → ℕ → ℕ → ℕ → ℕ → ℕ → ℕ → ℕ → Type 0
 TellsLasso (Ok (properties.Lasso shown)) status had justice before start at last =
-    (status ≡ done) × (justice ≡ shown.justice) × (start ≡ shown.start) × (last ≡ shown.last)
+    (status ≡ DONE) × (justice ≡ shown.justice) × (start ≡ shown.start) × (last ≡ shown.last)
 TellsLasso (Ok (properties.Bad shown)) status had justice before start at last =
     (status ≡ witness_bad) × (justice ≡ had) × (start ≡ before) × (last ≡ at)
 TellsLasso (Err e) status had justice before start at last =

@@ -5,12 +5,13 @@ use Rattle.std.specs.Prelude.{◌≡◌, ℕ, Bool, false, List, Some, Result}
 use Rattle.aig_answers.specs.Goals.{ChecksGoal, last_step}
 use Rattle.aig_answers.specs.declared.goals.error.GoalFault.{GoalFault}
 use Rattle.aig_answers.specs.declared.goals.goal.Goal.{Goal}
-use Rattle.aig_simulated.specs.Simulated.{Certifies, IsOwn, Proofs, first_verdict, proof_for, refusal_of}
+use Rattle.aig_simulated.specs.Simulated.{Certifies, IsOwn, Proofs, file_error, proof_for, refusal_of}
 use Rattle.aig_simulated.specs.Witnesses.{ReadsWitness}
 use Rattle.aig_simulated.specs.declared.error.SimulationError.{SimulationError}
 use Rattle.aig_subjects.specs.declared.subject.Subject.{Subject}
 use Rattle.aig_tool_commands.specs.declared.tool.TheConstants.{LIMIT}
 use Rattle.aig_calls.specs.Calls.{AtStep}
+use Rattle.aig_subjects.specs.declared.subject.FileSubject.TheVariants.{Own}
 use Rattle.aig_calls.specs.Statuses.{goal_status, simulation_status, status_by}
 
 -- no read of bytes in memory fails
@@ -42,7 +43,7 @@ ChecksBytes subject goal base step files proofs status =
 abbrev pub ChecksWitness : Bool → List ℕ → List ℕ → Proofs (List ℕ) → ℕ → Type 0
 ChecksWitness optimize file witness proofs status =
     (result : Result Unit SimulationError) × (rest : List ℕ) × (left : List ℕ)
-    × ReadsWitness Some none_fails Some none_fails LIMIT
-    (Certifies LIMIT optimize (λ condition. Some (proof_for proofs condition)))
-    first_verdict refusal_of IsOwn file witness result rest left
+    × ReadsWitness Some none_fails Some none_fails LIMIT Own
+    (Certifies LIMIT optimize (λ condition. Some (proof_for proofs condition)) Own)
+    file_error refusal_of IsOwn file witness result rest left
     × (status ≡ status_by simulation_status result)

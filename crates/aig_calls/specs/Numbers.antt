@@ -1,26 +1,18 @@
 -- Part of what is promised.
--- Clauses as DIMACS numbers, with a 0 after each, and which literals stand for inputs, latches and
--- bad literals. (DIMACS CNF format; bounded model checking: time frames.)
-use Rattle.std.specs.Prelude.{◌≡◌, ℕ, ◌+◌, if◌then◌else◌, Bool, true, List, [], ◌∷◌, ◌++◌, length, map, ℤ, pos, negsuc}
+-- The DIMACS numbers of a query's clauses, and which literals stand for inputs, latches and bad
+-- literals. (DIMACS CNF format; bounded model checking: time frames.)
+use Rattle.std.specs.Prelude.{◌≡◌, ℕ, ◌+◌, Bool, true, List, ◌++◌, length, map, ℤ}
 use Rattle.std.specs.List.{flat_map, range_with_len}
-use Rattle.aig_base.specs.declared.logic.literal.Lit.{Lit}
-use Rattle.aig_base.specs.Clauses.{is_positive, lit_to, variable_of}
+use Rattle.aig_base.specs.Clauses.{lit_to}
 use Rattle.aig_encode.specs.declared.query_clauses.Query.{Query}
 use Rattle.aig_encode.specs.Encoding.{IsQuery}
 use Rattle.aig_circuit.specs.declared.edge.AigEdge.{AigEdge}
 use Rattle.aig_circuit.specs.Circuit.{Circuit, latch_leaves}
 use Rattle.aig_circuit.specs.Edge.{lit_of}
 use Rattle.aig_format.specs.File.{File}
+use Rattle.aig_giving.specs.Numbers.{clause_numbers, dimacs_number}
 use Rattle.aig_runs.specs.Queries.{last_bads}
 use Rattle.aig_unroll.specs.Places.{place_at}
-
--- a variable's number and one more, negative where the literal is inverted
-abbrev pub dimacs_number : Lit → ℤ
-dimacs_number lit = if is_positive lit then pos (variable_of lit + 1) else negsuc (variable_of lit)
-
--- the numbers of a clause, and a 0
-abbrev pub clause_numbers : List Lit → List ℤ
-clause_numbers clause = map dimacs_number clause ++ pos 0 ∷ []
 
 -- the numbers of a query's clauses, first those of each variable and then the further ones
 abbrev pub query_numbers : Query → List ℤ

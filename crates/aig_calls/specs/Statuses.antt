@@ -7,8 +7,6 @@ use Rattle.aig_answers.specs.declared.error.AnswerError.TheVariants as answers
 use Rattle.aig_bounded.specs.declared.error.BoundedError.TheVariants as questions
 use Rattle.aig_answers.specs.declared.bounded_checks.error.BoundedAnswerError.{BoundedAnswerError}
 use Rattle.aig_answers.specs.declared.bounded_checks.error.BoundedAnswerError.TheVariants as bounded
-use Rattle.aig_answers.specs.declared.certificates.error.CertificateError.{CertificateError}
-use Rattle.aig_answers.specs.declared.certificates.error.CertificateError.TheVariants as certificate
 use Rattle.aig_answers.specs.declared.goals.error.GoalFault.{GoalFault}
 use Rattle.aig_answers.specs.declared.goals.error.GoalFault.TheVariants as goal_faults
 use Rattle.aig_answers.specs.declared.goals.goal.Goal.{Goal}
@@ -36,14 +34,12 @@ use Rattle.aig_edits.specs.declared.pair_error.PairError.{PairError}
 use Rattle.aig_edits.specs.declared.pair_error.PairError.TheVariants as pair
 use Rattle.aig_encode.specs.declared.error.EncodeError.{EncodeError}
 use Rattle.aig_encode.specs.declared.error.EncodeError.TheVariants as encode
+use Rattle.aig_giving.specs.Statuses.{read_status}
+use Rattle.aig_giving.specs.declared.status.TheConstants.{DONE, MEMORY as memory}
 use Rattle.aig_witness.specs.declared.fair.fault.LassoFault.{LassoFault}
 use Rattle.aig_witness.specs.declared.fair.fault.LassoFault.TheVariants as lasso
 use Rattle.aig_witness.specs.declared.fair.file.ClaimError.{ClaimError}
 use Rattle.aig_witness.specs.declared.fair.file.ClaimError.TheVariants as claims
-use Rattle.aig_reader.specs.declared.error.ReadError.{ReadError}
-use Rattle.aig_reader.specs.declared.error.ReadError.TheVariants as read
-use Rattle.aig_reader.specs.declared.error.Section.{Section}
-use Rattle.aig_reader.specs.declared.error.Section.TheVariants as section
 use Rattle.aig_refutation.specs.declared.error.RefutationError.{RefutationError}
 use Rattle.aig_refutation.specs.declared.error.RefutationError.TheVariants as refutation
 use Rattle.aig_subjects.specs.declared.error.SubjectError.{SubjectError}
@@ -62,18 +58,6 @@ use Rattle.aig_witness.specs.declared.file.ShowError.TheVariants as shows
 
 -- ---- names
 
--- the call has done what it is for
-abbrev pub done : ℕ
-done = 0
-
--- the answer doesn't fit the caller's memory
-abbrev pub small : ℕ
-small = 1
-
--- memory was refused
-abbrev pub memory : ℕ
-memory = 2
-
 -- K is 2^32 or more
 abbrev pub many_steps : ℕ
 many_steps = 4
@@ -84,33 +68,10 @@ flagged flag status = if nat_lt status 4 then status else flag + status
 
 -- how a call ends that has this result
 abbrev pub status_by : {T E : Type 0} → (E → ℕ) → Result T E → ℕ
-status_by of (Ok x) = done
+status_by of (Ok x) = DONE
 status_by of (Err e) = of e
 
 -- ---- one file
-
--- the sections, in the order of the header's counts from 1.9 on, and the gates at last
-abbrev pub section_number : Section → ℕ
-section_number section.Inputs = 0
-section_number section.Latches = 1
-section_number section.Outputs = 2
-section_number section.Bads = 3
-section_number section.Constraints = 4
-section_number section.Justice = 5
-section_number section.Fairness = 6
-section_number section.Gates = 7
-
--- a file is refused; no path is opened, and no read of memory fails
-abbrev pub read_status : ReadError → ℕ
-read_status read.Memory = memory
-read_status read.Stream = memory
-read_status read.Open = 10
-read_status read.Header = 10
-read_status read.TooMany = 11
-read_status read.Delta = 12
-read_status read.Name = 13
-read_status (read.Syntax s) = 16 + section_number s
-read_status (read.Literal s) = 24 + section_number s
 
 -- it has no clauses
 abbrev pub encode_status : EncodeError → ℕ
@@ -161,8 +122,6 @@ refutation_status refutation.Unfinished = 49
 abbrev pub answer_status : AnswerError → ℕ
 answer_status (answers.Encode e) = encode_status e
 answer_status answers.NoBads = 6
-answer_status answers.TooLarge = 7
-answer_status (answers.Refutation e) = refutation_status e
 
 -- a witness shows no bad state; which step it is isn't told
 abbrev pub fault_status : WitnessFault → ℕ
@@ -230,7 +189,6 @@ bounded_status (bounded.Read e) = read_status e
 bounded_status bounded.NoBads = 6
 bounded_status (bounded.Question questions.TooLarge) = 35
 bounded_status (bounded.Question questions.Memory) = memory
-bounded_status (bounded.Refutation e) = refutation_status e
 bounded_status (bounded.Solution e) = solution_status e
 
 -- ---- two files
@@ -243,12 +201,6 @@ pair_status (pair.Misfit m) = 8
 pair_status pair.TooLarge = 9
 pair_status pair.Memory = memory
 pair_status pair.Write = memory
-
--- the query of their circuit has no answer, or its window
-abbrev pub certificate_status : CertificateError → ℕ
-certificate_status (certificate.Pair e) = pair_status e
-certificate_status (certificate.Query e) = flagged 512 (answer_status e)
-certificate_status (certificate.Window e) = flagged 1024 (answer_status e)
 
 -- ---- goals
 
@@ -332,7 +284,7 @@ condition_flag Step = 4096
 
 -- a file's machine isn't shown to be safe by one
 abbrev pub simulation_status : SimulationError → ℕ
-simulation_status (simulation.Read e) = read_status e
+simulation_status (simulation.File e) = edit_status e
 simulation_status (simulation.Witness e) = flagged 256 (read_status e)
 simulation_status simulation.NoBads = 6
 simulation_status (simulation.Sharing e) = sharing_status e
@@ -353,6 +305,5 @@ check_status (checks.Show e) = show_status e
 check_status (checks.Lasso e) = lasso_status e
 check_status (checks.Bounded e) = bounded_status e
 check_status (checks.Goal e) = goal_status e.subject e.goal e.fault
-check_status (checks.Certificate e) = certificate_status e
 check_status (checks.Unmade e) = edit_status e
 check_status (checks.Simulation e) = simulation_status e

@@ -1,25 +1,12 @@
 //! Memory of the caller.
 
-ghost use Rattle.std.specs.Prelude.{◌≡◌};
 ghost use Rattle.aig_base.specs.Wrapped.{writer_of};
-ghost use Rattle.aig_calls.specs.Calls.{GivesItems, IsGiven};
+ghost use Rattle.aig_calls.specs.Calls.{GivesItems};
 ghost use Rattle.aig_calls.specs.Listings.{text_in};
 
-use crate::status::{DONE, HasNumber, SMALL};
+use crate::status::HasNumber;
 use aig_base::ToWrite;
-
-/// Copies items to the front of the caller's memory, where they fit, and says how many there are.
-pub(crate) fn give<T: Copy>(items: &[T], out: &mut [T], needed: &mut usize) -> u32
-    ensures { IsGiven result items.now out.old out.new needed.new }
-{
-    let count = items.len();
-    *needed = count;
-    if out.len() < count {
-        return SMALL;
-    }
-    out[..count].copy_from_slice(items);
-    DONE
-}
+use aig_giving::give;
 
 /// Gives the text that was written, or says by the error's number why there is none.
 pub(crate) fn put<E: HasNumber>(

@@ -8,10 +8,10 @@ ghost use Rattle.aig_unroll.specs.Places.{place_at};
 ghost use Rattle.aig_unroll.specs.Unroll.{UnrollsTo};
 ghost use Rattle.aig_calls.specs.Numbers.{edge_number, input_numbers, map_numbers, variable_number};
 
-use crate::numbers::number_of;
 use aig::{Aig, AigEdge, AigLatch};
 use aig_base::{MemoryError, Var};
 use aig_encode::Query;
+use aig_giving::number_of;
 use aig_witness::Places;
 use std::alloc::Global;
 

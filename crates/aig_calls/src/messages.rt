@@ -1,14 +1,13 @@
 //! What a status says, in words.
 
 ghost use Rattle.std.specs.Prelude.{◌≡◌, ◌<◌, ◌≤◌, List, ℕ};
-ghost use Rattle.aig_calls.specs.Calls.{IsGiven};
+ghost use Rattle.aig_giving.specs.Given.{IsGiven};
 
-use crate::buffer::give;
 use crate::status::{
-    BASE, CERTIFICATE, EMPTY, MEMORY, OTHER, PROOF, PROPERTY, QUERY, RESET, STEP, TRANSITION,
-    WINDOW,
+    BASE, CERTIFICATE, OTHER, PROOF, PROPERTY, QUERY, RESET, STEP, TRANSITION, WINDOW,
 };
 use aig_base::MemoryError;
+use aig_giving::{EMPTY, MEMORY, give};
 use std::alloc::Global;
 
 /// What is said before the words of a status with a flag.

@@ -1,22 +1,21 @@
 //! A call that gives the clauses of a query as numbers, and which literals stand for what.
 
-ghost use Rattle.std.specs.Prelude.{◌≡◌, ◌-◌, ◌<◌, ◌≤◌, ◌++◌, ◌^◌, All, IfOk, OnOk, Result, length};
-ghost use Rattle.std.specs.List.{flat_map};
+ghost use Rattle.std.specs.Prelude.{◌≡◌, ◌<◌, ◌≤◌, ◌^◌, IfOk, Result, length};
 ghost use Rattle.aig_answers.specs.declared.error.AnswerError.{AnswerError};
-ghost use Rattle.aig_base.specs.Clauses.{AreBelow, variable_of};
+ghost use Rattle.aig_base.specs.Clauses.{AreBelow};
 ghost use Rattle.aig_unroll.specs.Unroll.{UnrollsTo};
 ghost use Rattle.aig_calls.specs.Calls.{AtStep, GivesListing, Lists};
 ghost use Rattle.aig_calls.specs.Memory.{On};
-ghost use Rattle.aig_calls.specs.Numbers.{AreNumbersOf, Listing, clause_numbers, dimacs_number};
+ghost use Rattle.aig_calls.specs.Numbers.{AreNumbersOf, Listing};
 ghost use Rattle.aig_calls.specs.Listings.{listing_in};
 
-use crate::buffer::give;
 use crate::mapping::push_map;
 use crate::status::HasNumber;
 use crate::steps::step_of;
 use aig_answers::{AnswerError, read_query};
-use aig_base::{DagCnf, FromRead, Lit, LitVvec, MemoryError, Var};
+use aig_base::{FromRead, MemoryError};
 use aig_encode::Query;
+use aig_giving::{give, push_list, push_lists};
 use aig_tool_commands::LIMIT;
 use std::alloc::Global;
 
@@ -26,51 +25,6 @@ struct Listed {
     variables: usize,
     clauses_len: usize,
     numbers: Vec<i32>,
-}
-
-/// The DIMACS number of a literal, whose variable has a number below 2^31 - 1.
-pub(crate) fn number_of(lit: Lit) -> i32
-    requires { variable_of lit < 2 ^ 31 - 1 }
-    ensures { result ≡ dimacs_number lit }
-{
-    let number = (usize::from(lit.var()) + 1) as i32;
-    if lit.polarity() { number } else { -number }
-}
-
-/// Appends the numbers of a clause, and a 0.
-fn push_clause(numbers: &mut Vec<i32>, clause: &[Lit]) -> Result<(), MemoryError>
-    requires { All (λ lit. variable_of lit < 2 ^ 31 - 1) clause.now }
-    ensures { OnOk result (numbers.new.items ≡ numbers.old.items ++ clause_numbers clause.now) }
-{
-    for lit in clause {
-        numbers.push(number_of(*lit))?;
-    }
-    numbers.push(0)?;
-    Ok(())
-}
-
-/// Appends the numbers of each clause of a list.
-fn push_list(numbers: &mut Vec<i32>, clauses: &LitVvec) -> Result<(), MemoryError>
-    requires { AreBelow (2 ^ 31 - 1) clauses.now }
-    ensures { OnOk result (numbers.new.items ≡ numbers.old.items ++ flat_map clause_numbers
-        clauses.now) }
-{
-    for i in 0..clauses.len() {
-        push_clause(numbers, clauses.clause(i))?;
-    }
-    Ok(())
-}
-
-/// Appends the numbers of each clause of each variable.
-fn push_lists(numbers: &mut Vec<i32>, clauses: &DagCnf) -> Result<(), MemoryError>
-    requires { length clauses.now < 2 ^ 31 }
-    ensures { OnOk result (numbers.new.items ≡ numbers.old.items ++ flat_map (flat_map
-        clause_numbers) clauses.now) }
-{
-    for v in 0..clauses.num_vars() {
-        push_list(numbers, clauses.clauses_of(Var::new(v)))?;
-    }
-    Ok(())
 }
 
 /// The numbers of the clauses of a query for step `k`, and its map.

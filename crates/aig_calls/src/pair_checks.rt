@@ -62,6 +62,7 @@ fn simulate<'a>(
 {
     status_of(check_simulated(
         alloc,
+        FileSubject::Own,
         &mut InMemory::new(file),
         &mut InMemory::new(witness),
         LIMIT,

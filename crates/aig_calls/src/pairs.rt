@@ -1,14 +1,14 @@
 //! Calls that give the text of a circuit made of two files, or of its clauses.
 
-ghost use Rattle.aig_check_commands.specs.declared.command.PairCommand.TheVariants as commands;
 ghost use Rattle.aig_edits.specs.declared.pairing.Pairing.TheVariants.{Certificate, Merge, Miter};
-ghost use Rattle.aig_calls.specs.Calls.{GivesResult, MakesJoint, Prints, RunsOnPair};
+ghost use Rattle.aig_calls.specs.Calls.{GivesResult, MakesJoint, Prints, RunsCertificate};
 ghost use Rattle.aig_calls.specs.Statuses.{check_status, pair_status};
 
 use crate::buffer::put;
 use aig_base::{FromRead, ToWrite};
 use aig_check_commands::print_obligations;
 use aig_edits::{Comparison, Constraints, Pairing, Starts, print_joint};
+use aig_subjects::FileSubject;
 use aig_tool_commands::LIMIT;
 use std::alloc::Global;
 
@@ -97,12 +97,14 @@ pub extern "C" fn aig_obligations(
     out: &mut [u8],
     needed: &mut usize,
 ) -> u32
-    ensures { GivesResult check_status (Prints (RunsOnPair LIMIT (commands.Obligations optimize)
-        file.now certificate.now)) result out.old out.new needed.old needed.new }
+    ensures { GivesResult check_status
+        (Prints (RunsCertificate LIMIT optimize file.now certificate.now)) result out.old out.new
+        needed.old needed.new }
 {
     let first = FromRead::new(file);
     let second = FromRead::new(certificate);
     let mut sink = ToWrite::new(Vec::new(alloc));
-    let done = print_obligations(alloc, LIMIT, optimize, first, second, &mut sink);
+    let own = FileSubject::Own;
+    let done = print_obligations(alloc, LIMIT, own, optimize, first, second, &mut sink);
     put(done, sink, out, needed)
 }

@@ -1,18 +1,16 @@
 //! The numbers by which calls say how they ended.
 
 ghost use Rattle.std.specs.Prelude.{◌≡◌, ◌<◌, ◌≤◌, ℕ};
-ghost use Rattle.aig_calls.specs.Statuses.{answer_status, bounded_status, certificate_flag, certificate_status, check_status, claim_status, condition_flag, condition_status, edit_status, encode_status, fault_status, flagged, goal_status, lasso_status, nodes_status, pair_status, plan_status, question_flag, read_status, refutation_status, room_flag, section_number, sharing_status, show_status, simulation_status, solution_status, status_by, subject_status, tool_status, why_status, witness_status};
+ghost use Rattle.aig_calls.specs.Statuses.{answer_status, bounded_status, certificate_flag, check_status, claim_status, condition_flag, condition_status, edit_status, encode_status, fault_status, flagged, goal_status, lasso_status, nodes_status, pair_status, plan_status, question_flag, refutation_status, room_flag, sharing_status, show_status, simulation_status, solution_status, status_by, subject_status, tool_status, why_status, witness_status};
 
-use aig::ReadError;
 use aig_answers::{
-    AnswerError, BoundedAnswerError, CertificateError, Goal, GoalError, GoalFault, PlanError,
-    Refused, Why,
+    AnswerError, BoundedAnswerError, Goal, GoalError, GoalFault, PlanError, Refused, Why,
 };
 use aig_bounded::BoundedError;
 use aig_check_commands::CheckError;
 use aig_edits::{EditError, PairError};
 use aig_encode::EncodeError;
-use aig_reader::Section;
+use aig_giving::{DONE, HEADER, MEMORY, TOO_MANY, UNWRITABLE, of_read};
 use aig_refutation::RefutationError;
 use aig_simulated::{Condition, ConditionError, SimulationError};
 use aig_simulation::{QuestionError, SharingError};
@@ -20,12 +18,6 @@ use aig_subjects::{FileSubject, Subject, SubjectError};
 use aig_tool_commands::ToolError;
 use aig_witness::{ClaimError, LassoFault, ShowError, SolutionError, WitnessError, WitnessFault};
 
-/// The call has done what it is for.
-pub(crate) const DONE: u32 = 0;
-/// The answer doesn't fit the caller's memory.
-pub(crate) const SMALL: u32 = 1;
-/// Memory was refused.
-pub(crate) const MEMORY: u32 = 2;
 /// The number of a step is 2^32 or more.
 pub(crate) const MANY_STEPS: u32 = 4;
 /// The circuit with its further steps may pass the limit.
@@ -36,24 +28,10 @@ const NO_BADS: u32 = 6;
 const CROWDED: u32 = 7;
 /// The counts of two files don't fit.
 const MISFIT: u32 = 8;
-/// The circuit that is made is too large for the format.
-const UNWRITABLE: u32 = 9;
-/// The first line isn't a good header line.
-const HEADER: u32 = 10;
-/// The file has more variables than the limit allows.
-const TOO_MANY: u32 = 11;
-/// A gate of a binary file is cut, or its differences aren't allowed.
-const DELTA: u32 = 12;
-/// A name line is wrong.
-const NAME: u32 = 13;
 /// The name of a leaf of a witness circuit has no literal of such a leaf of the model.
 const UNKNOWN_LEAF: u32 = 14;
 /// The name of a leaf of a witness circuit has the literal of another.
 const TWICE: u32 = 15;
-/// A line of a section is wrong. The section's number is added.
-const SYNTAX: u32 = 16;
-/// A number of a section is no literal that may stand there. The section's number is added.
-const LITERAL: u32 = 24;
 /// Outputs would become bad literals, and the file has some.
 const HAS_BADS: u32 = 33;
 /// The file has no output of the number.
@@ -80,8 +58,6 @@ const SHOW: u32 = 70;
 const SOLUTION: u32 = 80;
 /// A witness shows no fair lasso. The fault's number is added.
 const LASSO: u32 = 100;
-/// A handle holds nothing: the first status of a call on a circuit in memory.
-pub(crate) const EMPTY: u32 = 110;
 
 /// It is the second of two files that is refused so.
 pub(crate) const OTHER: u32 = 256;
@@ -101,39 +77,6 @@ pub(crate) const RESET: u32 = 16384;
 pub(crate) const TRANSITION: u32 = 32768;
 /// It is that for `property`.
 pub(crate) const PROPERTY: u32 = 65536;
-
-/// The number of a section, in the order of the header's counts from 1.9 on, and of the gates at last.
-fn section_number(section: Section) -> u32
-    ensures exact { result ≡ section_number section }
-    ensures few { result < 8 }
-{
-    match section {
-        Section::Inputs => 0,
-        Section::Latches => 1,
-        Section::Outputs => 2,
-        Section::Bads => 3,
-        Section::Constraints => 4,
-        Section::Justice => 5,
-        Section::Fairness => 6,
-        Section::Gates => 7,
-    }
-}
-
-/// The status of a file that is refused. `Open` is never asked for, and no read of bytes in memory fails.
-fn of_read(error: ReadError) -> u32
-    ensures exact { result ≡ read_status error }
-    ensures few { result < 60 }
-{
-    match error {
-        ReadError::Memory | ReadError::Stream => MEMORY,
-        ReadError::Header | ReadError::Open => HEADER,
-        ReadError::TooMany => TOO_MANY,
-        ReadError::Syntax(section) => SYNTAX + section_number(section),
-        ReadError::Literal(section) => LITERAL + section_number(section),
-        ReadError::Delta => DELTA,
-        ReadError::Name => NAME,
-    }
-}
 
 /// The status of a file without clauses.
 fn of_encode(error: EncodeError) -> u32
@@ -194,8 +137,6 @@ fn of_answer(error: AnswerError) -> u32
     match error {
         AnswerError::Encode(error) => of_encode(error),
         AnswerError::NoBads => NO_BADS,
-        AnswerError::TooLarge => CROWDED,
-        AnswerError::Refutation(error) => of_refutation(error),
     }
 }
 
@@ -267,7 +208,6 @@ fn of_bounded(error: BoundedAnswerError) -> u32
         BoundedAnswerError::NoBads => NO_BADS,
         BoundedAnswerError::Question(BoundedError::TooLarge) => LARGE_QUESTION,
         BoundedAnswerError::Question(BoundedError::Memory) => MEMORY,
-        BoundedAnswerError::Refutation(error) => of_refutation(error),
         BoundedAnswerError::Solution(error) => of_solution(error),
     }
 }
@@ -296,18 +236,6 @@ fn of_pair(error: PairError) -> u32
         PairError::Misfit(_) => MISFIT,
         PairError::TooLarge => UNWRITABLE,
         PairError::Memory | PairError::Write => MEMORY,
-    }
-}
-
-/// The status of two files of which something isn't shown.
-fn of_certificate(error: CertificateError) -> u32
-    ensures exact { result ≡ certificate_status error }
-    ensures few { result < 2048 }
-{
-    match error {
-        CertificateError::Pair(error) => of_pair(error),
-        CertificateError::Query(error) => flagged(QUERY, of_answer(error)),
-        CertificateError::Window(error) => flagged(WINDOW, of_answer(error)),
     }
 }
 
@@ -445,7 +373,7 @@ fn of_simulation(error: SimulationError) -> u32
     ensures { result ≡ simulation_status error }
 {
     match error {
-        SimulationError::Read(error) => of_read(error),
+        SimulationError::File(error) => of_edit(error),
         SimulationError::Witness(error) => flagged(OTHER, of_read(error)),
         SimulationError::NoBads => NO_BADS,
         SimulationError::Sharing(error) => of_sharing(error),
@@ -579,7 +507,6 @@ impl HasNumber for CheckError {
             CheckError::Lasso(fault) => of_lasso(fault),
             CheckError::Bounded(error) => of_bounded(error),
             CheckError::Goal(error) => error.number(),
-            CheckError::Certificate(error) => of_certificate(error),
             CheckError::Unmade(error) => of_edit(error),
             CheckError::Simulation(error) => of_simulation(error),
         }

@@ -8,8 +8,9 @@ ghost use Rattle.aig_witness.specs.declared.file.Shown.{Shown};
 ghost use Rattle.aig_calls.specs.Calls.{ShowsBad, ShowsEither, TellsBad, TellsLasso};
 ghost use Rattle.aig_calls.specs.Memory.{On};
 
-use crate::status::{DONE, HasNumber, WITNESS_BAD};
+use crate::status::{HasNumber, WITNESS_BAD};
 use aig_base::FromRead;
+use aig_giving::DONE;
 use aig_tool_commands::LIMIT;
 use aig_witness::{ClaimError, ShowError, Shown, ShownProperty, check_claim, check_witness};
 use std::alloc::Global;

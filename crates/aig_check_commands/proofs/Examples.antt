@@ -1,12 +1,12 @@
 -- The comments of a small query, computed; and wrong words and lines, of which the definitions are
 -- false.
-use Rattle.aig_check_commands.proofs.Words.{◌≡◌, ◌≢◌, ◌⊎◌, ℕ, All, Bool, true, false, None, Ok, Option, List, [], ◌∷◌, ◌++◌, length, refl, ap, subst, sym, arith, length-append, ◌∙◌, inl, inr, Some, same_Some, false≢true, Err, IsTrue, not, slice_get, slice_index, slice_index_or, lit_to, False, Leaf, AigEdge, Properties, only_false, edge_to, lit_of, no_properties, File, IsNumber, ByName, one_constraints, Comparison, Constraints, Compared, OfBoth, OfFirst, Alike, Apart, Accepted, Judges, RefutationError, AnswerError, BoundedClauses, IsSettled, Condition, TellsOfCondition, TellsOfSimulated, Asked, Command, FileCommand, Justice, OpenError, CheckError, ChecksFile, IsErrorOf, TellsOfGiven, file_verdict, nothing_fails, nothing_given, shown_line, verdict_of, Window, Acts, OnOpening, Arguments, GivesArguments, setting_words, IsLimited, Action, IsObligationsText, always_line, equal_line, safe_line, starts_text, AreCommand, FitNone, Give, IsAlone, IsOf, IsOnWitness, IsWhole, command_of, form_of, name_of, of_both, raw_alone, under, WitnessAction, AsksOfBads, ArePrinted, HasNoClauses, IsQuestionText, room_of, Question, WindowClauses}
+use Rattle.aig_check_commands.proofs.Words.{◌≡◌, ◌≢◌, ◌⊎◌, ℕ, All, Bool, true, false, None, Ok, Option, List, [], ◌∷◌, ◌++◌, length, refl, ap, subst, sym, arith, length-append, ◌∙◌, inl, inr, Some, same_Some, Err, IsTrue, not, slice_get, slice_index, slice_index_or, lit_to, False, Leaf, AigEdge, Properties, only_false, edge_to, lit_of, no_properties, IsNumber, ByName, one_constraints, Comparison, Constraints, Compared, OfBoth, OfFirst, Alike, Apart, Accepted, Judges, RefutationError, BoundedClauses, IsSettled, Condition, TellsOfCondition, Asked, Command, FileCommand, Justice, OpenError, CheckError, TellsOfGiven, file_verdict, shown_line, Window, Acts, OnOpening, Arguments, GivesArguments, setting_words, IsLimited, Action, IsObligationsText, always_line, equal_line, safe_line, starts_text, AreCommand, FitNone, Give, IsAlone, IsOf, IsOnWitness, IsWhole, command_of, form_of, name_of, of_both, raw_alone, under, WitnessAction, AsksOfBads, ArePrinted, HasNoClauses, IsQuestionText, room_of, Question, WindowClauses}
 use Rattle.aig_base.proofs.Words.{Result}
 use Rattle.std.specs.Prelude.{◌^◌, codes, decimal, if◌then◌else◌}
 use Rattle.std.specs.Fmt.{digits}
 use Rattle.aig_circuit.proofs.Words.{Circuit}
-use Rattle.aig_answers.specs.declared.error.AnswerError.TheVariants as answers
 use Rattle.aig_check_commands.specs.Titles.{title_text}
+use Rattle.aig_simulated.specs.Simulated.{ChecksModel}
 use Rattle.aig_witness.specs.declared.error.WitnessError.TheVariants as witness
 use Rattle.aig_witness.specs.declared.file.ShowError.TheVariants as shows
 use Rattle.aig_witness.specs.declared.fair.file.ShownProperty.TheVariants as properties
@@ -381,18 +381,18 @@ compared_told : always_line (record { starts = Apart; constraints = Compared })
 compared_told = refl
 
 -- the clauses of BASE under the name of those of STEP
-no_step_first : (optimize : Bool) (bytes others : Option (List ℕ)) (f g : File)
-    (text rest : List ℕ) (is : IsObligationsText optimize bytes others f g text)
+no_step_first : (optimize : Bool) (m : Circuit) (sum beside text rest : List ℕ)
+    (is : IsObligationsText optimize m sum beside text)
     → is.base ≢ codes "c step" ++ rest
-no_step_first optimize bytes others f g text rest is same =
+no_step_first optimize m sum beside text rest is same =
     let letter : 115 ≡ 98 = ap (λ text. slice_index text 2) (sym same ∙ is.base_exact) in
     omega (arith, letter)
 
 -- clauses without their title
-no_bare_clauses : (optimize : Bool) (bytes others : Option (List ℕ)) (f g : File) (rest : List ℕ)
-    → ¬ IsObligationsText optimize bytes others f g (codes "c base" ++ rest)
+no_bare_clauses : (optimize : Bool) (m : Circuit) (sum beside rest : List ℕ)
+    → ¬ IsObligationsText optimize m sum beside (codes "c base" ++ rest)
 unfolding title_text
-no_bare_clauses optimize bytes others f g rest is =
+no_bare_clauses optimize m sum beside rest is =
     let letter : 98 ≡ 97 = ap (λ text. slice_index text 2) is.exact in omega (arith, letter)
 
 -- ---- questions up to a step
@@ -452,11 +452,11 @@ no_answer_after_a_failure c limit old new said =
     let failed : true ≡ false = (said.whole tt).0 in cc
 
 -- a machine is told to be safe, though a condition of the certificate isn't shown
-no_condition_left_out : {W : Type 0} (held : W → Option (List ℕ)) (write_failed : W → Bool)
-    (optimize : Bool) (limit : ℕ) (texts : Condition → Option (List ℕ)) (w made : W) (f g : File)
-    (condition : Condition) → ¬ TellsOfCondition limit optimize texts f g condition (Ok tt)
-    → ¬ TellsOfSimulated held write_failed optimize limit texts w made f g (Ok tt)
-no_condition_left_out _ _ _ _ _ _ _ _ _ condition refused told = refused (told.0.2 condition)
+no_condition_left_out : (optimize : Bool) (limit : ℕ) (texts : Condition → Option (List ℕ))
+    (node : ℕ → Option ℕ) (m w : Circuit) (condition : Condition)
+    → ¬ TellsOfCondition limit optimize texts node m w condition (Ok tt)
+    → ¬ ChecksModel limit optimize texts node m w (Ok tt)
+no_condition_left_out _ _ _ _ _ _ condition refused told = refused (told.1 condition)
 
 -- memory is told in the place of a file that can't be opened
 no_memory_before_files : {F W : Type 0} (left : F → Option (List ℕ)) (failed : F → Bool)

@@ -1,9 +1,8 @@
 mod Words
 mod Commenting
 mod Calling
-mod Fair
 mod Flushing
-mod Made
+mod Commanding
 mod Opened
 pub mod Outcomes
 mod Pairing

@@ -120,7 +120,7 @@ module _ {F : Type 0} (opens : List ℕ → Result F OpenError → Type 0) where
 pub paths_few : (c : Command) → (0 < paths_of c) × (paths_of c ≤ 2)
 paths_few (commands.File c) = (omega arith, omega arith)
 paths_few (commands.Print q) = (omega arith, omega arith)
-paths_few (commands.Pair c) = (omega arith, omega arith)
+paths_few (commands.Obligations o) = (omega arith, omega arith)
 paths_few (commands.Check (subjects.File own) goal o p) = (omega arith, omega arith)
 paths_few (commands.Check subject goal o p) = (omega arith, omega arith)
 paths_few (commands.Simulated o) = (omega arith, omega arith)

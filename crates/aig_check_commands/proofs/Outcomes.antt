@@ -1,5 +1,5 @@
 -- What a command does, at each way out of it.
-use Rattle.aig_check_commands.proofs.Words.{◌≡◌, ◌≢◌, ℕ, Bool, false, Option, Ok, Err, List, refl, sym, ap, subst, Appends, IsErrOf, Result, IsAtEnd, File, IsReadAs, ReadsFile, Accepted, IsOfFile, Judges, Verdict, of_no_file, short_of, WritesOrStops, AnswerError, IsOfQuery, BoundedAnswerError, IsOfWitness, IsSum, FileCommand, CheckError, EndsWith, Printed, IsKnownText, IsSolutionOf, IsTextOf, after_writing, Answers, ChecksFile, IsAskedBy, IsErrorOf, IsOfFileAlone, Runs, TellsOfGiven, TellsOfQuestion, TellsOfSolution, file_verdict, verdict_of}
+use Rattle.aig_check_commands.proofs.Words.{◌≡◌, ◌≢◌, ℕ, Bool, false, Option, Ok, Err, List, refl, sym, ap, subst, Appends, IsErrOf, Result, IsAtEnd, File, IsReadAs, ReadsFile, Accepted, IsOfFile, Judges, Verdict, of_no_file, WritesOrStops, AnswerError, IsOfQuery, BoundedAnswerError, IsOfWitness, IsSum, FileCommand, CheckError, EndsWith, Printed, IsKnownText, IsSolutionOf, after_writing, Answers, ChecksFile, IsAskedBy, IsErrorOf, IsOfFileAlone, Runs, TellsOfGiven, TellsOfSolution, file_verdict, verdict_of}
 use Rattle.aig_encode.specs.declared.encoding.Encoded.{Encoded}
 use Rattle.aig_answers.specs.Answers as asking
 use Rattle.aig_witness.specs.declared.solutions.error.SolutionError.{SolutionError}
@@ -195,7 +195,6 @@ pub refuses_bounded : (e : BoundedAnswerError) → IsOfFileAlone (errors.Bounded
 refuses_bounded (bounded.Read e) alone is = of_no_file e (subst IsOfFile (sym is) tt)
 refuses_bounded bounded.NoBads alone is = cc
 refuses_bounded (bounded.Question e) alone is = cc
-refuses_bounded (bounded.Refutation e) alone is = alone
 refuses_bounded (bounded.Solution e) alone is = alone
 
 -- what an error tells of a solver's answer

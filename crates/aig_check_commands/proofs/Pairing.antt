@@ -1,88 +1,149 @@
--- What a command on two files does, at each way out of it.
-use Rattle.aig_check_commands.proofs.Words.{◌≡◌, ℕ, Bool, false, Option, Some, Ok, Err, List, [], ◌∷◌, ◌++◌, length, refl, ap, subst, ◌∙◌, Appends, Appends-trans, on_err_weaker, on_ok_weaker, IsAtEnd, IsErr, Result, WindowClauses, AreObligationsOf, CertificateError, clauses_in, Lit, Circuit, lists_circuit, HasClauses, ArePassed, parse_formula-passed, parse_formula-dimacs_of, IsFormula, IsTextWith, reads_on, ReadsPair, File, Stops-before, Stops-put, failed_put, Stops, WritesOrStops, Verdict, IsSum, Title, ChecksPair, IsErrorOfPair, IsObligationsText, TellsOfPair, formula_of, other_verdict_of, part_text, verdict_of, WritesBehind, clauses_with, pair_title}
+-- What a command that prints the clauses of a certificate does, at each way out of it.
+use Rattle.aig_check_commands.proofs.Words.{◌≡◌, ℕ, Bool, Option, Some, Ok, Err, List, [], ◌∷◌, ◌++◌, length, refl, ◌∙◌, Appends, Appends-trans, on_err_weaker, on_ok_weaker, IsErr, Result, WindowClauses, clauses_in, Lit, Circuit, lists_circuit, HasClauses, ArePassed, parse_formula-passed, parse_formula-dimacs_of, IsFormula, IsTextWith, Stops-before, Stops-put, failed_put, Stops, WritesOrStops, Title, IsObligationsText, formula_of, part_text, WritesBehind, clauses_with, pair_title, ReadsFile, IsEditOwn, edit_verdict, file_on, GivesSummed, EditError, Accepted, File}
 use Rattle.std.specs.Prelude.{codes}
-use Rattle.aig_answers.specs.Certificates as certificates
-use Rattle.aig_answers.specs.Certificates.{Obliges}
-use Rattle.aig_answers.specs.declared.certificates.asking.Obligations.{Obligations}
+use Rattle.aig_answers.specs.Goals.{IsGoalOwn}
+use Rattle.aig_answers.specs.declared.goals.error.GoalFault.{GoalFault}
+use Rattle.aig_answers.specs.declared.goals.error.GoalFault.TheVariants as faults
+use Rattle.aig_circuit.specs.declared.view.CircuitLists.{CircuitLists}
 use Rattle.aig_dimacs.specs.Reading.{after_comments, parse_formula}
 use Rattle.aig_dimacs.specs.Text.{dimacs_of}
-use Rattle.aig_edits.specs.Joints.{IsJointOf}
-use Rattle.aig_edits.specs.declared.pairing.Pairing.TheVariants.{Certificate}
+use Rattle.aig_edits.specs.Joints.{IsOfBeside, second_verdict}
+use Rattle.aig_edits.specs.declared.pair_error.PairError.{PairError}
+use Rattle.aig_subjects.proofs.FilesRead.{certificate_read, file_refused, file_taken}
+use Rattle.aig_subjects.proofs.InOrder.{files_on}
+use Rattle.aig_subjects.specs.Parts as parts
+use Rattle.aig_subjects.specs.Parts.{IsOfCertificate, certificate_verdict}
+use Rattle.aig_subjects.specs.Reads.{ReadsFiles}
+use Rattle.aig_subjects.specs.Subjects.{GivesFile, IsOwn, error_verdicts, verdicts}
+use Rattle.aig_subjects.specs.declared.error.SubjectError.{SubjectError}
+use Rattle.aig_subjects.specs.declared.error.SubjectError.TheVariants as refusals
+use Rattle.aig_subjects.specs.declared.subject.FileSubject.{FileSubject}
+use Rattle.aig_subjects.specs.declared.subject.Subject.TheVariants as subjects
+use Rattle.aig_check_commands.specs.Pairs.{TellsOfJoint, TellsOfObligations, obligation_verdicts}
+use Rattle.aig_check_commands.specs.Printing.{AreObligationsOf, AsksJoint, GivesBeside, GivesJoint}
 use Rattle.aig_check_commands.specs.Titles.{title_text}
-use Rattle.aig_check_commands.specs.declared.command.PairCommand.TheVariants as commands
-use Rattle.aig_check_commands.specs.declared.error.CheckError.TheVariants as errors
-use Rattle.aig_check_commands.proofs.Outcomes.{summed}
+use Rattle.aig_check_commands.specs.declared.pairs.Obligations.{Obligations}
 
-module _ {R S : Type 0} {left : R → Option (List ℕ)} {failed : R → Bool}
-    {left_of : S → Option (List ℕ)} {failed_of : S → Bool} {optimize : Bool} {limit : ℕ}
-    {r rest : R} {s other : S} where
-  -- a file is refused, or there are no clauses of them
-  pub pair_refused : (e : CertificateError)
-      → ReadsPair left failed left_of failed_of limit (Obliges limit optimize)
-      certificates.first_verdict certificates.second_verdict certificates.IsOfClauses r s (Err e) rest
-      other
-      → ChecksPair left failed left_of failed_of (commands.Obligations optimize) limit r s rest other
-      (Err (errors.Certificate e))
-  pair_refused e reads =
-      reads_on left failed left_of failed_of limit r s rest other
-      (TellsOfPair (commands.Obligations optimize) limit (left r) (left_of s)) verdict_of
-      other_verdict_of (IsErrorOfPair (commands.Obligations optimize)) (Err (errors.Certificate e))
-      reads refl refl reads.own (λ f g bytes others fits also told. told)
+-- ---- both files
 
-  -- their clauses are made
-  pub pair_answered : (o : Obligations) (text : List ℕ)
-      → ReadsPair left failed left_of failed_of limit (Obliges limit optimize)
-      certificates.first_verdict certificates.second_verdict certificates.IsOfClauses r s (Ok o) rest
-      other
-      → ((f g : File) → Obliges limit optimize f g (Ok o)
-      → IsObligationsText optimize (left r) (left_of s) f g text)
-      → ChecksPair left failed left_of failed_of (commands.Obligations optimize) limit r s rest other
-      (Ok text)
-  pair_answered o text reads means =
-      reads_on left failed left_of failed_of limit r s rest other
-      (TellsOfPair (commands.Obligations optimize) limit (left r) (left_of s)) verdict_of
-      other_verdict_of (IsErrorOfPair (commands.Obligations optimize)) (Ok text) reads refl refl tt
-      (λ f g bytes others fits also told. means f g told)
+module _ {S : Type 0} (left : S → Option (List ℕ)) (failed : S → Bool) (limit : ℕ)
+    (own : FileSubject) (r rest s : S) where
+  abbrev Means : List File → Result (CircuitLists × List ℕ × List ℕ) SubjectError → Type 0
+  Means = GivesJoint own (left r) (left s)
 
--- what is said of sources is said of those under them
-pub reads_under : {A B R S T E : Type 0} {Means : File → File → Result T E → Type 0}
-    {first second : E → Verdict} {Own : E → Type 0} {limit : ℕ} {r rest : A} {s other : B}
-    {result : Result T E} (left : R → Option (List ℕ)) (failed : R → Bool)
-    (left_of : S → Option (List ℕ)) (failed_of : S → Bool) (under : A → R) (under_of : B → S)
-    → ReadsPair (λ x. left (under x)) (λ x. failed (under x)) (λ y. left_of (under_of y))
-    (λ y. failed_of (under_of y)) limit Means first second Own r s result rest other
-    → ReadsPair left failed left_of failed_of limit Means first second Own (under r) (under_of s)
-    result (under rest) (under_of other)
-reads_under left failed left_of failed_of under under_of told = record {
-  verdict = told.verdict;
-  other_verdict = told.other_verdict;
-  unread = λ no. ap under_of (told.unread no);
-  answer = told.answer;
-  own = told.own;
-}
+  abbrev ReadsBoth : S → Result (CircuitLists × List ℕ × List ℕ) SubjectError → Type 0
+  ReadsBoth other x =
+      ReadsFiles left failed limit (verdicts (subjects.Certified own)) Means IsOwn (r ∷ s ∷ []) x
+      (rest ∷ other ∷ [])
 
--- and where both were read under sources that sum, these are the sums of their bytes
-pub summed_under : {A B R S T E : Type 0} {Means : File → File → Result T E → Type 0}
-    {first second : E → Verdict} {Own : E → Type 0} {limit : ℕ} {r rest : A} {s other : B} {u : T}
-    (left : R → Option (List ℕ)) (failed : R → Bool)
-    (left_of : S → Option (List ℕ)) (failed_of : S → Bool) (under : A → R) (under_of : B → S)
-    (start start_of : Option (List ℕ)) (sum beside : List ℕ)
-    → ReadsPair (λ x. left (under x)) (λ x. failed (under x)) (λ y. left_of (under_of y))
-    (λ y. failed_of (under_of y)) limit Means first second Own r s (Ok u) rest other
-    → left (under r) ≡ start → left_of (under_of s) ≡ start_of
-    → (failed (under rest) ≡ false → IsAtEnd (left (under rest)) → IsSum start sum)
-    → (failed_of (under_of other) ≡ false → IsAtEnd (left_of (under_of other))
-    → IsSum start_of beside)
-    → ReadsPair left failed left_of failed_of limit Means first second Own (under r) (under_of s)
-    (Ok u) (under rest) (under_of other)
-    × IsSum (left (under r)) sum × IsSum (left_of (under_of s)) beside
-summed_under left failed left_of failed_of under under_of start start_of sum beside told is is_of
-    sums sums_of =
-    let read = reads_under left failed left_of failed_of under under_of told in (
-      read,
-      summed start sum read.verdict is sums,
-      summed start_of beside (read.other_verdict refl) is_of sums_of,
-    )
+  -- FILE is refused, or nothing is made of it
+  pub first_refused : (e : EditError)
+      → ReadsFile left failed limit (GivesSummed own (left r)) edit_verdict IsEditOwn r (Err e) rest
+      → ReadsBoth s (Err (refusals.File e))
+  first_refused e told = record {
+    reads = file_refused left failed limit Means (Err (refusals.File e)) own e r rest (s ∷ [])
+        (file_on left failed limit r rest (GivesFile own) edit_verdict IsEditOwn (Err e) told refl
+        told.own (λ f fits gives. gives))
+        (λ f is. is);
+    own = told.own;
+  }
+
+  module _ (lists : CircuitLists) (sum : List ℕ) (told : ReadsFile left failed limit (GivesSummed own
+      (left r)) edit_verdict IsEditOwn r (Ok (lists, sum)) rest) (other : S) where
+    abbrev ReadsBeside : Result (CircuitLists × List ℕ) PairError → Type 0
+    ReadsBeside x =
+        ReadsFile left failed limit (GivesBeside (lists_circuit lists) (left s)) second_verdict
+        IsOfBeside s x other
+
+    made : ReadsFile left failed limit (GivesFile own) edit_verdict IsEditOwn r (Ok lists) rest
+    made =
+        file_on left failed limit r rest (GivesFile own) edit_verdict IsEditOwn (Ok lists) told refl
+        tt (λ f fits gives. gives.0)
+
+    -- the certificate is refused, or it doesn't fit
+    pub second_refused : (e : PairError) → ReadsBeside (Err e)
+        → ReadsBoth other (Err (refusals.Certificate e))
+    second_refused e also = record {
+      reads = file_taken left failed limit Means (Err (refusals.Certificate e)) own lists r rest
+          (second_verdict e ∷ []) (s ∷ []) (other ∷ []) made
+          (λ f is. certificate_read left failed limit (λ files. Means (f ∷ files))
+          (Err (refusals.Certificate e)) (lists_circuit lists) (Err (refusals.Certificate e)) s other
+          [] (file_on left failed limit s other (parts.GivesBeside (lists_circuit lists))
+          certificate_verdict IsOfCertificate (Err (refusals.Certificate e)) also refl also.own
+          (λ g fits gives. gives)) (λ g gives. (lists_circuit lists, is, gives)));
+      own = also.own;
+    }
+
+    -- both are taken
+    pub both_taken : (joint : CircuitLists) (beside : List ℕ) → ReadsBeside (Ok (joint, beside))
+        → ReadsBoth other (Ok (joint, sum, beside))
+    both_taken joint beside also = record {
+      reads = file_taken left failed limit Means (Ok (joint, sum, beside)) own lists r rest
+          (Accepted ∷ []) (s ∷ []) (other ∷ []) made
+          (λ f is. certificate_read left failed limit (λ files. Means (f ∷ files))
+          (Ok (joint, sum, beside)) (lists_circuit lists) (Ok joint) s other []
+          (file_on left failed limit s other (parts.GivesBeside (lists_circuit lists))
+          certificate_verdict IsOfCertificate (Ok joint) also refl tt (λ g fits gives. gives.0))
+          (λ g gives. (
+            lists_circuit lists,
+            is,
+            gives,
+            (told.answer refl).means.1,
+            (also.answer refl).means.1,
+          )));
+      own = tt;
+    }
+
+-- ---- the joint circuit
+
+-- why there are no clauses of it
+pub joint_refused : (limit : ℕ) (optimize : Bool) (m : Circuit) (sum beside : List ℕ)
+    (e : GoalFault) → AsksJoint limit optimize m (Err e) → TellsOfJoint limit optimize m sum beside (Err e)
+joint_refused limit optimize m sum beside (faults.Plan e) told = told
+joint_refused limit optimize m sum beside faults.Memory told = tt
+joint_refused limit optimize m sum beside (faults.Subject e) told = absurd told
+
+module _ {S : Type 0} (left : S → Option (List ℕ)) (failed : S → Bool) (limit : ℕ)
+    (own : FileSubject) (optimize : Bool) (r s : S) (after : List S) where
+  abbrev Tells : Result (List ℕ) GoalFault → Type 0
+  Tells made =
+      ReadsFiles left failed limit (obligation_verdicts own)
+      (TellsOfObligations limit own optimize (left r) (left s)) IsGoalOwn (r ∷ s ∷ []) made after
+
+  -- what is told of it is told of the files
+  pub joint_told : (joint : CircuitLists) (sum beside : List ℕ)
+      → ReadsFiles left failed limit (verdicts (subjects.Certified own))
+      (GivesJoint own (left r) (left s)) IsOwn (r ∷ s ∷ []) (Ok (joint, sum, beside)) after
+      → (made : Result (List ℕ) GoalFault)
+      → TellsOfJoint limit optimize (lists_circuit joint) sum beside made → Tells made
+  joint_told joint sum beside read (Ok text) told = record {
+    reads = files_on left failed limit (Accepted ∷ Accepted ∷ []) (GivesJoint own (left r) (left s))
+        (TellsOfObligations limit own optimize (left r) (left s)) (r ∷ s ∷ []) after
+        (Ok (joint, sum, beside)) (Ok text) read.reads
+        (λ files are gives. (lists_circuit joint, (sum, (beside, gives, told))));
+    own = tt;
+  }
+  joint_told joint sum beside read (Err (faults.Subject e)) told = absurd told
+  joint_told joint sum beside read (Err e) told = record {
+    reads = files_on left failed limit (Accepted ∷ Accepted ∷ []) (GivesJoint own (left r) (left s))
+        (TellsOfObligations limit own optimize (left r) (left s)) (r ∷ s ∷ []) after
+        (Ok (joint, sum, beside)) (Err e) read.reads
+        (λ files are gives. (lists_circuit joint, (sum, (beside, gives, told))));
+    own = tt;
+  }
+
+  -- there is none
+  pub joint_unmade : (e : SubjectError)
+      → ReadsFiles left failed limit (verdicts (subjects.Certified own))
+      (GivesJoint own (left r) (left s)) IsOwn (r ∷ s ∷ []) (Err e) after
+      → Tells (Err (faults.Subject e))
+  joint_unmade e read = record {
+    reads = files_on left failed limit (error_verdicts (subjects.Certified own) e)
+        (GivesJoint own (left r) (left s))
+        (TellsOfObligations limit own optimize (left r) (left s)) (r ∷ s ∷ []) after (Err e)
+        (Err (faults.Subject e)) read.reads (λ files are is. is);
+    own = read.own;
+  }
 
 -- ---- texts of clauses
 
@@ -144,33 +205,24 @@ obliged_text title o base step =
     title_text title ++ part_text (codes "c base") (clauses_with base o.base.extra)
     ++ part_text (codes "c step") (clauses_with step o.step.extra)
 
-pub obligations_text : (optimize : Bool) (bytes others : Option (List ℕ)) (sum beside : List ℕ)
-    → IsSum bytes sum → IsSum others beside
-    → (f g : File) (o : Obligations) (base step : List (List (List Lit)))
-    → (m : Circuit) × IsJointOf Certificate f g m × AreObligationsOf optimize m o
+pub obligations_text : (optimize : Bool) (m : Circuit) (sum beside : List ℕ) (o : Obligations)
+    (base step : List (List (List Lit))) → AreObligationsOf optimize m o
     → HasClauses o.joint.unrolled optimize base → HasClauses (lists_circuit o.stepped) optimize step
     → IsFormula (length base) (clauses_in base ++ o.base.extra)
     → IsFormula (length step) (clauses_in step ++ o.step.extra)
-    → IsObligationsText optimize bytes others f g (obliged_text (pair_title optimize sum beside) o base step)
-obligations_text optimize bytes others sum beside sums sums_beside f g o base step asked base_has step_has base_formula step_formula = record {
-  sum = sum;
-  sums = sums;
-  beside = beside;
-  sums_beside = sums_beside;
-  base_clauses = clauses_with base o.base.extra;
-  step_clauses = clauses_with step o.step.extra;
-  asked = record {
-    whole = asked.0;
-    joint = asked.1;
-    unrolled = o.joint.unrolled;
-    base = asked.2.base base base_has;
-    step = asked.2.step step step_has;
-  };
-  base = part_text (codes "c base") (clauses_with base o.base.extra);
-  base_exact = refl;
-  step = part_text (codes "c step") (clauses_with step o.step.extra);
-  step_exact = refl;
-  exact = refl;
-  base_again = part_again (codes "c base") (clauses_with base o.base.extra) base_named base_formula;
-  step_again = part_again (codes "c step") (clauses_with step o.step.extra) step_named step_formula;
-}
+    → IsObligationsText optimize m sum beside
+    (obliged_text (pair_title optimize sum beside) o base step)
+obligations_text optimize m sum beside o base step are base_has step_has base_formula step_formula =
+    record {
+      base_clauses = clauses_with base o.base.extra;
+      base_asks = (o.joint.unrolled, are.base base base_has);
+      step_clauses = clauses_with step o.step.extra;
+      step_asks = are.step step step_has;
+      base = part_text (codes "c base") (clauses_with base o.base.extra);
+      base_exact = refl;
+      step = part_text (codes "c step") (clauses_with step o.step.extra);
+      step_exact = refl;
+      exact = refl;
+      base_again = part_again (codes "c base") (clauses_with base o.base.extra) base_named base_formula;
+      step_again = part_again (codes "c step") (clauses_with step o.step.extra) step_named step_formula;
+    }

@@ -1,6 +1,6 @@
 -- What becomes of a question of FILE's circuit, or of the one that is made of it, whose clauses are
 -- printed.
-use Rattle.aig_check_commands.proofs.Words.{◌≡◌, ◌<◌, ◌≤◌, ◌^◌, ℕ, Bool, List, [], ◌∷◌, ◌≢◌, Option, Some, Ok, Err, Result, IsErrOf, inl, inr, ap, refl, subst, sym, slice_get_within, BoundedClauses, CanBeAsked, HasNone, Question, asked_with, Circuit, lists_circuit, file_on, IsEditOwn, ReadsFile, edit_verdict, File, CheckError, Printed, IsTextOf, IsTextOfQuestion, AnswersQuestion, GivesSummed, IsQuestionText, TellsOfClauses, clauses_error, room_of, IsSum, summed_text, text_of, IsMadeOwn, made_verdict}
+use Rattle.aig_check_commands.proofs.Words.{◌≡◌, ◌<◌, ◌≤◌, ◌^◌, ℕ, Bool, List, [], ◌∷◌, ◌≢◌, Option, Ok, Err, Result, IsErrOf, inl, inr, ap, refl, subst, sym, slice_get_within, BoundedClauses, CanBeAsked, HasNone, Question, asked_with, Circuit, lists_circuit, file_on, IsEditOwn, ReadsFile, edit_verdict, File, CheckError, Printed, IsTextOf, IsTextOfQuestion, AnswersQuestion, GivesSummed, IsQuestionText, TellsOfClauses, room_of, IsSum, summed_text, text_of, IsMadeOwn, made_verdict}
 use Rattle.aig_answers.specs.Plans.{IsTooLarge}
 use Rattle.aig_answers.specs.declared.plans.asking.Ask.{Ask}
 use Rattle.aig_answers.specs.declared.plans.asking.Ask.TheVariants as asks

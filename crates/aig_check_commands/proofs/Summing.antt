@@ -1,5 +1,5 @@
 -- Sums of bytes that came in pieces, and of all that were there.
-use Rattle.aig_check_commands.proofs.Words.{◌≡◌, ℕ, Bool, true, false, List, [], ◌++◌, Option, None, Some, Consumes, Consumes-whole, subst, ◌∙◌, sym, ∥∥₁_elim, IsAtEnd, IsSum, Sums}
+use Rattle.aig_check_commands.proofs.Words.{◌≡◌, ℕ, Bool, true, false, List, [], ◌++◌, Option, None, Some, Appends, Consumes, Consumes-whole, subst, ◌∙◌, sym, ∥∥₁_elim, IsAtEnd, IsSum, Sums}
 use denote.Struct.Props.{props}
 use Rattle.std.proofs.KnownBytes.{Consumes-nil, Consumes-trans}
 use Rattle.sha2.specs.Hashers.{Holds256}
@@ -50,3 +50,9 @@ whole start left failed hasher sum sound end so sums =
 pub known_sum : (known : Option (List ℕ)) (sum : List ℕ) → ∥ IsSum known sum ∥₁ → IsSum known sum
 known_sum None sum h = tt
 known_sum (Some bytes) sum h = ∥∥₁_elim h (search props) (λ e. e)
+
+-- a writer that held nothing holds just the text
+pub only_text : (old new : Option (List ℕ)) (text items : List ℕ) → Appends old new text
+    → old ≡ Some [] → new ≡ Some items → items ≡ text
+only_text old new text items appends none all =
+    subst (λ n. Appends (Some []) n text) all (subst (λ o. Appends o new text) none appends)

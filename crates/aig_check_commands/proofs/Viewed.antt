@@ -1,12 +1,12 @@
 -- What a command does is so of what is seen of its files: of their bytes alone.
-use Rattle.aig_check_commands.proofs.Words.{◌≡◌, ℕ, ◌+◌, Bool, true, false, List, [], ◌∷◌, Option, None, Some, Ok, Err, ap, fun_ext, map, refl, subst, sym, ◌∙◌, IfErr, IsTrue, Result, option_map, slice_get-map, Circuit, File, IsReadAs, Asked, Command, FileCommand, PairCommand, CheckError, RanBy, RanOn, Justice, Ran, bytes_of, has_failed, ChecksText, Concludes, MeansMade, PrintsMade, TellsMade, HasFairRun, AnswersAt, AreUnread, ChecksCircuit, IsHeld, Tells, Question, WindowClauses, RefutationError, prints, Printed, ChecksPair, ChecksFile, nothing_fails, nothing_given, LeavesProof, RunsObligation, RunsSimulated, TellsOfSimulated, Proofs, proof_for, proofs_of, Condition}
+use Rattle.aig_check_commands.proofs.Words.{◌≡◌, ℕ, ◌+◌, Bool, List, [], ◌∷◌, Option, None, Some, Ok, Err, ap, fun_ext, map, refl, subst, sym, ◌∙◌, IfErr, IfSome, IsTrue, Result, option_map, slice_get-map, Circuit, File, IsReadAs, Asked, Command, FileCommand, CheckError, EditError, RanOn, Justice, AnswersAt, AreUnread, ChecksCircuit, IsHeld, Tells, Question, WindowClauses, RefutationError, Printed, AnswersObligations, obligation_verdicts, ChecksFile, LeavesProof, ReadsWitness, IsErrorOfObligation, TellsOfSimulated, Proofs, proof_for, proofs_of, Condition}
 use Rattle.aig_check_commands.specs.declared.command.Command.TheVariants as commands
-use Rattle.aig_check_commands.specs.declared.error.CheckError.TheVariants as errors
 use Rattle.std.specs.List.{drop-map, take-map}
 use Rattle.std.specs.Prelude.{drop, take}
 use Rattle.aig_reader.specs.Verdicts.{Accepted, Verdict}
 use Rattle.aig_subjects.specs.Reads.{AreReadAs}
 use Rattle.aig_subjects.specs.Subjects.{file_count}
+use Rattle.aig_subjects.specs.declared.subject.FileSubject.{FileSubject}
 use Rattle.aig_subjects.specs.declared.subject.Subject.{Subject}
 use Rattle.aig_answers.specs.Goals.{ChecksGoal, LeavesProofs, TellsOfGoal, goal_verdicts, plan_of}
 use Rattle.aig_answers.specs.declared.goals.error.GoalFault.{GoalFault}
@@ -14,15 +14,16 @@ use Rattle.aig_answers.specs.declared.goals.error.GoalFault.TheVariants as goal_
 use Rattle.aig_answers.specs.declared.goals.goal.Goal.{Goal}
 use Rattle.aig_check_commands.specs.Acting.{RanAll}
 use Rattle.aig_check_commands.specs.Checked.{AnswersCheck}
-use Rattle.aig_check_commands.specs.Goals.{no_run_line}
-use Rattle.aig_check_commands.specs.Justice.{subject_of}
+use Rattle.aig_check_commands.specs.Simulating.{AnswersSimulated, TellsOfObligation, file_error, refusal_of}
+use Rattle.aig_simulated.specs.Witnesses.{part_of}
+use Rattle.aig_check_commands.specs.Justice.{file_subject, subject_of}
+use Rattle.aig_check_commands.specs.Pairs.{TellsOfObligations}
 use Rattle.aig_answers.specs.declared.plans.errors.PlanError.{PlanError}
 use Rattle.aig_answers.specs.declared.plans.errors.PlanError.TheVariants as plans
 use Rattle.aig_answers.specs.declared.plans.errors.Why.{Why}
 use Rattle.aig_answers.specs.declared.plans.errors.Why.TheVariants as whys
 use Rattle.aig_simulation.specs.declared.condition.Condition.TheVariants as conditions
 use Rattle.aig_check_commands.proofs.Outcomes.{file_under, printed_on}
-use Rattle.aig_check_commands.proofs.Pairing.{reads_under}
 
 -- a value of the same file, with another meaning
 pub read_as : {T U : Type 0} {Holds : List ℕ → File → Type 0} (Means : File → T → Type 0)
@@ -185,6 +186,24 @@ module _ {S A P B : Type 0} (to : S → A) (left : A → Option (List ℕ)) (fai
   check_seen x told =
       record { checked = told.checked; checks = goal_seen told.checked told.checks; told = told.told }
 
+-- so are the clauses of a certificate
+module _ {S A : Type 0} (to : S → A) (left : A → Option (List ℕ)) (failed : A → Bool) (limit : ℕ)
+    (own : FileSubject) (optimize : Bool) (r s rest other : S) where
+  obligations_seen : (x : Result (List ℕ) CheckError)
+      → AnswersObligations (λ y. left (to y)) (λ y. failed (to y)) limit own optimize r s rest other x
+      → AnswersObligations left failed limit own optimize (to r) (to s) (to rest) (to other) x
+  obligations_seen x told =
+      let Means = TellsOfObligations limit own optimize (left (to r)) (left (to s)) in
+      record {
+        made = told.made;
+        reads = record {
+          reads = files_seen to left failed limit (obligation_verdicts own told.made) Means Means
+              (r ∷ s ∷ []) (rest ∷ other ∷ []) told.made (λ files is. is) told.reads.reads;
+          own = told.reads.own;
+        };
+        told = told.told;
+      }
+
 -- proofs as they are seen
 abbrev proofs_seen_as : {S B : Type 0} → (S → B) → Proofs S → Proofs B
 proofs_seen_as on p =
@@ -200,20 +219,17 @@ module _ {S B : Type 0} (on : S → B) (p : Proofs S) where
   for_seen conditions.Step = refl
 
   -- so are their texts
-  simulates_seen : {W : Type 0} (left_of : B → Option (List ℕ)) (held : W → Option (List ℕ))
-      (write_failed : W → Bool) (optimize : Bool) (limit : ℕ) (w made : W) (f g : File)
-      (x : Result (Unit {0}) CheckError)
-      → TellsOfSimulated held write_failed optimize limit
-      (λ condition. left_of (on (proof_for p condition))) w made f g x
-      → TellsOfSimulated held write_failed optimize limit
-      (λ condition. left_of (proof_for (proofs_seen_as on p) condition)) w made f g x
-  simulates_seen left_of held write_failed optimize limit w made f g x told =
-      subst (λ (texts : Condition → Option (List ℕ)).
-      TellsOfSimulated held write_failed optimize limit texts w made f g x)
+  simulates_seen : (left_of : B → Option (List ℕ)) (limit : ℕ) (own : FileSubject)
+      (optimize : Bool) (f g : File) (x : Result (List ℕ) CheckError)
+      → TellsOfSimulated limit own optimize (λ condition. left_of (on (proof_for p condition))) f g x
+      → TellsOfSimulated limit own optimize
+      (λ condition. left_of (proof_for (proofs_seen_as on p) condition)) f g x
+  simulates_seen left_of limit own optimize f g x told =
+      subst (λ (texts : Condition → Option (List ℕ)). TellsOfSimulated limit own optimize texts f g x)
       (fun_ext (λ condition. ap left_of (for_seen condition))) told
 
 -- those that aren't read
-proofs_left : {S B : Type 0} (on : S → B) (p used : Proofs S) (x : Result (Unit {0}) CheckError)
+proofs_left : {S B : Type 0} (on : S → B) (p used : Proofs S) (x : Result (List ℕ) CheckError)
     → IfErr x (λ e. (condition : Condition) → LeavesProof condition e
     → proof_for used condition ≡ proof_for p condition)
     → IfErr x (λ e. (condition : Condition) → LeavesProof condition e
@@ -240,181 +256,61 @@ module _ {R A : Type 0} (to : R → A) (left : A → Option (List ℕ)) (failed 
     refusal = told.refusal;
   }
 
-  pub two_seen : {S B : Type 0} (on : S → B) (left_of : B → Option (List ℕ)) (failed_of : B → Bool)
-      (c : PairCommand) {s other : S}
-      → ChecksPair (λ y. left (to y)) (λ y. failed (to y)) (λ y. left_of (on y))
-      (λ y. failed_of (on y)) c limit r s rest other x
-      → ChecksPair left failed left_of failed_of c limit (to r) (on s) (to rest) (on other) x
-  two_seen on left_of failed_of c told = reads_under left failed left_of failed_of to on told
-
 -- ---- what is done
 
-same : Unit {0} → Unit {0}
-same x = x
+module _ {S B : Type 0} (on : S → B) (left : B → Option (List ℕ)) (failed : B → Bool) (limit : ℕ)
+    (own : FileSubject) (r rest s other : S) where
+  -- what is read of a file and a witness circuit is read so as these are seen
+  witness_seen : {T : Type 0} (Means Also : File → File → Result T CheckError → Type 0)
+      (Own : CheckError → Type 0) (x : Result T CheckError)
+      → ((f g : File) → Means f g x → Also f g x)
+      → ReadsWitness (λ y. left (on y)) (λ y. failed (on y)) (λ y. left (on y)) (λ y. failed (on y))
+      limit own Means file_error refusal_of Own r s x rest other
+      → ReadsWitness left failed left failed limit own Also file_error refusal_of Own (on r) (on s) x
+      (on rest) (on other)
+  witness_seen Means Also Own x so told = record {
+    verdict = told.verdict;
+    unmade = told.unmade;
+    unread = unread_on (part_of file_error x) told.unread;
+    refused = told.refused;
+    whole = told.whole;
+    answer = λ first second. read_as _ _ (λ f. read_as _ _ (so f)) (told.answer first second);
+    errors = told.errors;
+  }
+    where
+      unread_on : (o : Option EditError) → IfSome o (λ _. other ≡ s)
+          → IfSome o (λ _. on other ≡ on s)
+      unread_on None unread = tt
+      unread_on (Some e) unread = ap on unread
 
-module _ {R A : Type 0} (to : R → A) (left : A → Option (List ℕ)) (failed : A → Bool) {W : Type 0}
-    (held : W → Option (List ℕ)) (write_failed : W → Bool) (limit : ℕ) (r rest : R) (w made : W)
-    (result : Result (Unit {0}) CheckError) where
-  module _ {S B : Type 0} (on : S → B) (left_of : B → Option (List ℕ)) (failed_of : B → Bool)
-      (optimize : Bool) (s other : S) where
-    simulated_seen : (p used : Proofs S)
-        → RunsSimulated (λ x. left (to x)) (λ x. failed (to x)) (λ x. left_of (on x))
-        (λ x. failed_of (on x)) (λ x. left_of (on x)) (λ x. failed_of (on x)) held write_failed
-        optimize limit r s p w result rest other used made
-        → RunsSimulated left failed left_of failed_of left_of failed_of held write_failed optimize
-        limit (to r) (on s) (proofs_seen_as on p) w result (to rest) (on other)
-        (proofs_seen_as on used) made
-    simulated_seen p used runs = record {
-      reads = record {
-        verdict = runs.reads.verdict;
-        refused = runs.reads.refused;
-        unread = λ not. ap on (runs.reads.unread not);
-        whole = runs.reads.whole;
-        answer = λ first second. read_as _ _ (λ f. read_as _ _ (λ g. simulates_seen on p left_of held
-            write_failed optimize limit w made f g result)) (runs.reads.answer first second);
-        own = runs.reads.own;
-      };
-      kept = runs.kept;
-      unread = proofs_left on p used result runs.unread;
-      stream = λ condition is. subst (λ (q : B). IsTrue (failed_of q)) (for_seen on used condition)
-          (runs.stream condition is);
-    }
-
-    obligation_seen : (condition : Condition)
-        → RunsObligation (λ x. left (to x)) (λ x. failed (to x)) (λ x. left_of (on x))
-        (λ x. failed_of (on x)) held write_failed condition optimize limit r s w result rest other
-        made
-        → RunsObligation left failed left_of failed_of held write_failed condition optimize limit
-        (to r) (on s) w result (to rest) (on other) made
-    obligation_seen condition runs = record {
-      reads = record {
-        verdict = runs.reads.verdict;
-        refused = runs.reads.refused;
-        unread = λ not. ap on (runs.reads.unread not);
-        whole = runs.reads.whole;
-        answer = runs.reads.answer;
-        own = runs.reads.own;
-      };
-      kept = runs.kept;
-    }
-
-  -- a command is seen so
-  pub ran_seen : {S B : Type 0} (on : S → B) (left_of : B → Option (List ℕ)) (failed_of : B → Bool)
-      (c : Command) (files others : List S)
-      → Ran (λ x. left (to x)) (λ x. failed (to x)) (λ x. left_of (on x)) (λ x. failed_of (on x))
-      held write_failed limit c r files w result rest others made
-      → Ran left failed left_of failed_of held write_failed limit c (to r) (map on files) w result
-      (to rest) (map on others) made
-  ran_seen on left_of failed_of (commands.File c) (p ∷ []) (used ∷ []) ran =
-      still_printed (λ x. checks_seen to left failed x on left_of failed_of) ran
-  ran_seen on left_of failed_of (commands.Print q) files others ran =
-      still_printed (λ x. file_under left failed to) ran
-  ran_seen on left_of failed_of (commands.Pair c) (s ∷ []) (other ∷ []) ran =
-      still_printed (λ x. two_seen to left failed x on left_of failed_of c) ran
-  ran_seen on left_of failed_of (commands.Simulated optimize) (s ∷ a ∷ b ∷ c ∷ d ∷ e ∷ [])
-      (other ∷ a_rest ∷ b_rest ∷ c_rest ∷ d_rest ∷ e_rest ∷ []) ran =
-      simulated_seen on left_of failed_of optimize s other (proofs_of a b c d e)
-      (proofs_of a_rest b_rest c_rest d_rest e_rest) ran
-  ran_seen on left_of failed_of (commands.Obligation condition optimize) (s ∷ []) (other ∷ []) ran =
-      obligation_seen on left_of failed_of optimize s other condition ran
-  ran_seen on left_of failed_of c files others ran = absurd ran
-
--- ---- on what is made
-
--- what is told of a check may be told of what follows from it
-pub concludes_on : {W : Type 0} (held : W → Option (List ℕ)) (write_failed : W → Bool)
-    (line : List ℕ) (Shown : Type 0) (Checks Also : Result (Unit {0}) CheckError → Type 0) (w made : W)
-    → ((x : Result (Unit {0}) CheckError) → Checks x → Also x) → (x : Result (Unit {0}) CheckError)
-    → Concludes held write_failed line Shown Checks w made x
-    → Concludes held write_failed line Shown Also w made x
-concludes_on held write_failed line Shown Checks Also w made so (Ok u) told =
-    (so (Ok tt) told.0, told.1, told.2, told.3)
-concludes_on held write_failed line Shown Checks Also w made so (Err errors.Write) told =
-    (so (Ok tt) told.0, told.1, told.2)
-concludes_on held write_failed line Shown Checks Also w made so (Err e) told =
-    (so (Err e) told.0, told.1)
-
--- and what is told of what is made
-tells_on : (a : Justice) (Means Also : File → List ℕ → Result (Unit {0}) CheckError → Type 0)
-    (x : Result (Unit {0}) CheckError)
-    → ((f : File) (text : List ℕ) → Means f text x → Also f text x)
-    → (f : File) → TellsMade a Means f x → TellsMade a Also f x
-tells_on a Means Also (Ok u) so f told = (told.0, told.1, so f _ told.2)
-tells_on a Means Also (Err (errors.Unmade e)) so f told = told
-tells_on a Means Also (Err e) so f told = (told.0, told.1, so f _ told.2)
-
-module _ {S B : Type 0} (on : S → B) (left_of : B → Option (List ℕ)) (failed_of : B → Bool)
-    {W : Type 0} (limit : ℕ) (c : Command) (files others : List S) where
-  prints_seen : (held : W → Option (List ℕ)) (write_failed : W → Bool) (w made : W) (text : List ℕ)
-      (x : Result (Unit {0}) CheckError)
-      → PrintsMade (λ y. left_of (on y)) (λ y. failed_of (on y)) held write_failed limit c files
-      others w made text x
-      → PrintsMade left_of failed_of held write_failed limit c (map on files) (map on others) w made
-      text x
-  prints_seen held write_failed w made text x told = (
-    told.0,
-    ran_seen (λ y. y) bytes_of has_failed held write_failed limit (Some text, false)
-        (Some told.0, false) w made x on left_of failed_of c files others told.1,
-  )
-
-module _ {S B : Type 0} (on : S → B) (left_of : B → Option (List ℕ)) (failed_of : B → Bool)
-    {W : Type 0} (held : W → Option (List ℕ)) (write_failed : W → Bool) (limit : ℕ)
-    (files others : List S) (w made : W) where
-  means_seen : (c : Command) (b : Bool) (property : ℕ) (x : Result (Unit {0}) CheckError) (f : File)
-      (text : List ℕ)
-      → MeansMade b (λ y. left_of (on y)) (λ y. failed_of (on y)) held write_failed limit property c
-      files others w made f text x
-      → MeansMade b left_of failed_of held write_failed limit property c (map on files)
-      (map on others) w made f text x
-  means_seen c true property x f text told =
-      prints_seen on left_of failed_of limit c files others held write_failed w made text x told
-  means_seen c false property x f text told =
-      concludes_on held write_failed (no_run_line property) (¬ HasFairRun f property)
-      (ChecksText (λ y. left_of (on y)) (λ y. failed_of (on y)) limit c files others text)
-      (ChecksText left_of failed_of limit c (map on files) (map on others) text) w made
-      (λ y checks. (
-        checks.0,
-        checks.1,
-        prints_seen on left_of failed_of limit c files others _ _ checks.0 checks.1 text y checks.2,
-      )) x told
-
-  made_unread : (Leaves : CheckError → Type 0) (x : Result (Unit {0}) CheckError)
-      → IfErr x (λ e. Leaves e → (others ≡ files) × (made ≡ w))
-      → IfErr x (λ e. Leaves e → (map on others ≡ map on files) × (made ≡ w))
-  made_unread Leaves (Ok u) unread = tt
-  made_unread Leaves (Err e) unread =
-      λ is. (ap (λ (xs : List S). map on xs) (unread is).0, (unread is).1)
-
-  -- what is asked is seen so
-  module _ {R A : Type 0} (to : R → A) (left : A → Option (List ℕ)) (failed : A → Bool)
-      (r rest : R) (x : Result (Unit {0}) CheckError) where
-    by_seen : (c : Command) (asked : Option Justice)
-        → RanBy (λ y. left (to y)) (λ y. failed (to y)) (λ y. left_of (on y)) (λ y. failed_of (on y))
-        held write_failed limit asked c r files w x rest others made
-        → RanBy left failed left_of failed_of held write_failed limit asked c (to r) (map on files) w
-        x (to rest) (map on others) made
-    by_seen c None ran =
-        ran_seen to left failed held write_failed limit r rest w made x on left_of failed_of c files
-        others ran
-    by_seen (commands.Print q) (Some a) ran =
-        still_printed (λ y. file_under left failed to) ran
-    by_seen c (Some a) ran = record {
-      reads = record {
-        verdict = ran.reads.verdict;
-        answer = λ is. read_as _ _ (tells_on a
-            (MeansMade (prints c) (λ y. left_of (on y)) (λ y. failed_of (on y)) held write_failed limit
-            a.property c files others w made)
-            (MeansMade (prints c) left_of failed_of held write_failed limit a.property c (map on files)
-            (map on others) w made) x (means_seen c (prints c) a.property x)) (ran.reads.answer is);
-        own = ran.reads.own;
-      };
-      unread = made_unread _ x ran.unread;
-    }
+  simulated_seen : (optimize : Bool) (p used : Proofs S) (x : Result (List ℕ) CheckError)
+      → AnswersSimulated (λ y. left (on y)) (λ y. failed (on y)) (λ y. left (on y))
+      (λ y. failed (on y)) (λ y. left (on y)) (λ y. failed (on y)) limit own optimize r s p rest other
+      used x
+      → AnswersSimulated left failed left failed left failed limit own optimize (on r) (on s)
+      (proofs_seen_as on p) (on rest) (on other) (proofs_seen_as on used) x
+  simulated_seen optimize p used x told = record {
+    reads = witness_seen _ _ _ x (λ f g. simulates_seen on p left limit own optimize f g x)
+        told.reads;
+    unread = proofs_left on p used x told.unread;
+    stream = λ condition is. subst (λ (q : B). IsTrue (failed q)) (for_seen on used condition)
+        (told.stream condition is);
+  }
 
 -- so on files
 module _ {S B : Type 0} (on : S → B) (left : B → Option (List ℕ)) (failed : B → Bool) {W : Type 0}
     (held : W → Option (List ℕ)) (write_failed : W → Bool) (limit : ℕ) (a : Option Justice)
     (w made : W) (x : Result (Unit {0}) CheckError) where
+  -- so on one, which no justice property is of
+  file_seen : (c : FileCommand) (b : Option Justice) (files others : List S)
+      → RanAll (λ y. left (on y)) (λ y. failed (on y)) held write_failed limit b (commands.File c)
+      files w x others made
+      → RanAll left failed held write_failed limit b (commands.File c) (map on files) w x
+      (map on others) made
+  file_seen c None (r ∷ p ∷ []) (rest ∷ used ∷ []) ran =
+      still_printed (λ y. checks_seen on left failed y on left failed) ran
+  file_seen c b files others ran = absurd ran
+
   all_seen : (c : Command) (files others : List S)
       → RanAll (λ y. left (on y)) (λ y. failed (on y)) held write_failed limit a c files w x others made
       → RanAll left failed held write_failed limit a c (map on files) w x (map on others) made
@@ -428,8 +324,20 @@ module _ {S B : Type 0} (on : S → B) (left : B → Option (List ℕ)) (failed 
       ) (still_printed (check_seen on left failed on left failed limit
       (subject_of a subject) goal base step (take count files) (take count others)
       (drop count files) (drop count others)) ran)
-  all_seen c (r ∷ files) (rest ∷ others) ran =
-      by_seen on left failed held write_failed limit files others w made on left failed r rest x c a ran
+  all_seen (commands.Print q) (r ∷ files) (rest ∷ others) ran =
+      still_printed (λ y. file_under left failed on) ran
+  all_seen (commands.Obligations optimize) (r ∷ s ∷ []) (rest ∷ other ∷ []) ran =
+      still_printed (obligations_seen on left failed limit (file_subject a) optimize r s rest other) ran
+  all_seen (commands.Obligation condition optimize) (r ∷ s ∷ []) (rest ∷ other ∷ []) ran =
+      still_printed (λ y. witness_seen on left failed limit (file_subject a) r rest s other
+      (TellsOfObligation limit (file_subject a) condition optimize (left (on r)) (left (on s)))
+      (TellsOfObligation limit (file_subject a) condition optimize (left (on r)) (left (on s)))
+      (IsErrorOfObligation condition) y (λ f g told. told)) ran
+  all_seen (commands.Simulated optimize) (r ∷ s ∷ p ∷ q ∷ t ∷ b ∷ e ∷ [])
+      (rest ∷ other ∷ p_rest ∷ q_rest ∷ t_rest ∷ b_rest ∷ e_rest ∷ []) ran =
+      still_printed (simulated_seen on left failed limit (file_subject a) r rest s other optimize
+      (proofs_of p q t b e) (proofs_of p_rest q_rest t_rest b_rest e_rest)) ran
+  all_seen (commands.File c) files others ran = file_seen c a files others ran
   all_seen c files others ran = absurd ran
 
 pub on_seen : {S B : Type 0} (on : S → B) (left : B → Option (List ℕ)) (failed : B → Bool)

@@ -2,7 +2,7 @@
 -- What the program does with its words. Files are opened as a trait says; of a file that is read it
 -- says the bytes that are left and whether a read failed, and of what is written to the bytes held,
 -- whether a write failed, and whether all of them are in their place.
-use Rattle.std.specs.Prelude.{◌≡◌, ◌↔◌, ◌⊎◌, ℕ, Bool, IsTrue, List, [], ◌∷◌, ◌++◌, take, drop, Option, None, Some, Result, Err, OnOk}
+use Rattle.std.specs.Prelude.{◌≡◌, ◌↔◌, ◌⊎◌, ℕ, Bool, IsTrue, List, [], ◌∷◌, ◌++◌, take, drop, Option, None, Result, Err, OnOk}
 use Rattle.aig_command_line.specs.declared.help.Help.{Help}
 use Rattle.aig_command_line.specs.Help.{word_of}
 use Rattle.aig_command_line.specs.declared.status.Ending.{Ending}
@@ -17,28 +17,18 @@ use Rattle.aig_check_commands.specs.declared.error.CheckError.{CheckError}
 use Rattle.aig_check_commands.specs.declared.error.CheckError.TheVariants as errors
 use Rattle.aig_subjects.specs.Subjects.{file_count}
 use Rattle.aig_check_commands.specs.Checked.{RunsGoal}
-use Rattle.aig_check_commands.specs.Justice.{made_for, subject_of}
-use Rattle.aig_check_commands.specs.Inputs.{Ran}
-use Rattle.aig_check_commands.specs.Living.{RanMade}
+use Rattle.aig_check_commands.specs.Justice.{file_subject, subject_of}
 use Rattle.aig_check_commands.specs.Opening.{OpensAll}
+use Rattle.aig_check_commands.specs.Pairs.{RunsObligations}
 use Rattle.aig_check_commands.specs.Questions.{RunsQuestion}
+use Rattle.aig_check_commands.specs.Running.{Runs}
+use Rattle.aig_check_commands.specs.Simulating.{RunsObligation, RunsSimulated}
+use Rattle.aig_simulated.specs.Simulated.{proofs_of}
 use Rattle.aig_check_commands.specs.CommandWords.{Give, IsCall}
 
--- the command was run on FILE and on the files behind it, or about a justice property of FILE: on
--- the circuit that is made of it, or on that circuit's text
-abbrev pub RanBy : {R S W : Type 0} → (R → Option (List ℕ)) → (R → Bool)
-    → (S → Option (List ℕ)) → (S → Bool) → (W → Option (List ℕ)) → (W → Bool) → ℕ → Option Justice
-    → Command → R → List S → W → Result Unit CheckError → R → List S → W → Type 0
-RanBy left failed left_of failed_of held write_failed limit None c =
-    Ran left failed left_of failed_of held write_failed limit c
-RanBy left failed left_of failed_of held write_failed limit (Some a) (commands.Print q) =
-    λ r files w result rest others made.
-    RunsQuestion left failed held write_failed limit (made_for a) q r w result rest made
-RanBy left failed left_of failed_of held write_failed limit (Some a) c =
-    RanMade left failed left_of failed_of held write_failed limit a c
-
--- so it was on files, of which the first is FILE; or proofs were checked, which come behind the
--- files of what is asked about
+-- What is asked was done with files, of which the first is FILE: proofs of a goal were checked,
+-- which come behind the files of what is asked about; or clauses were printed, or proofs checked of
+-- a witness circuit, of FILE's circuit that is asked about; or a command was run on FILE itself.
 abbrev pub RanAll : {F W : Type 0} → (F → Option (List ℕ)) → (F → Bool) → (W → Option (List ℕ))
     → (W → Bool) → ℕ → Option Justice → Command → List F → W → Result Unit CheckError → List F → W
     → Type 0
@@ -47,8 +37,27 @@ RanAll left failed held write_failed limit a (commands.Check subject goal base s
     let count = file_count subject in
     RunsGoal left failed left failed held write_failed limit (subject_of a subject) goal base step
     (take count files) (drop count files) w result (take count others) (drop count others) made
-RanAll left failed held write_failed limit a c (r ∷ files) w result (rest ∷ others) made =
-    RanBy left failed left failed held write_failed limit a c r files w result rest others made
+RanAll left failed held write_failed limit a (commands.Print q) (r ∷ files) w result (rest ∷ others)
+    made =
+    RunsQuestion left failed held write_failed limit (file_subject a) q r w result rest made
+RanAll left failed held write_failed limit a (commands.Obligations optimize) (r ∷ s ∷ []) w result
+    (rest ∷ other ∷ []) made =
+    RunsObligations left failed held write_failed limit (file_subject a) optimize r s w result rest
+    other made
+RanAll left failed held write_failed limit a (commands.Obligation condition optimize) (r ∷ s ∷ []) w
+    result (rest ∷ other ∷ []) made =
+    RunsObligation left failed left failed held write_failed limit (file_subject a) condition
+    optimize r s w result rest other made
+RanAll left failed held write_failed limit a (commands.Simulated optimize)
+    (r ∷ s ∷ reset ∷ transition ∷ property ∷ base ∷ step ∷ []) w result
+    (rest ∷ other ∷ reset_rest ∷ transition_rest ∷ property_rest ∷ base_rest ∷ step_rest ∷ [])
+    made =
+    RunsSimulated left failed left failed left failed held write_failed limit (file_subject a)
+    optimize r s (proofs_of reset transition property base step) w result rest other
+    (proofs_of reset_rest transition_rest property_rest base_rest step_rest) made
+RanAll left failed held write_failed limit None (commands.File c) (r ∷ p ∷ []) w result
+    (rest ∷ used ∷ []) made =
+    Runs left failed left failed held write_failed c limit r p w result rest used made
 RanAll left failed held write_failed limit a c files w result others made = ⊥
 
 abbrev pub RanOn : {F W : Type 0} → (F → Option (List ℕ)) → (F → Bool) → (W → Option (List ℕ))

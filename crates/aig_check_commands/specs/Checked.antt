@@ -10,11 +10,15 @@ use Rattle.aig_check_commands.specs.Printed.{Printed}
 use Rattle.aig_check_commands.specs.declared.error.CheckError.{CheckError}
 use Rattle.aig_check_commands.specs.declared.error.CheckError.TheVariants as errors
 
+-- the error of a goal that isn't shown
+abbrev pub goal_error : Subject → Goal → GoalFault → CheckError
+goal_error subject goal e =
+    errors.Goal (record { subject = subject; goal = goal; fault = e })
+
 -- the line that is printed where the goal is shown, or the error where it isn't
 abbrev pub answer_of : Subject → Goal → Result Unit GoalFault → Result (List ℕ) CheckError
 answer_of subject goal (Ok done) = Ok (line_of subject goal)
-answer_of subject goal (Err e) =
-    Err (errors.Goal (record { subject = subject; goal = goal; fault = e }))
+answer_of subject goal (Err e) = Err (goal_error subject goal e)
 
 -- The answer is that of a check: before and proofs are the readers of the files and of the proofs,
 -- and after and others are these after it.

@@ -25,7 +25,6 @@ use Rattle.aig_check_commands.specs.declared.command.Asked.{Asked}
 use Rattle.aig_check_commands.specs.declared.command.Command.{Command}
 use Rattle.aig_check_commands.specs.declared.command.Command.TheVariants as commands
 use Rattle.aig_check_commands.specs.declared.command.FileCommand.TheVariants as on_file
-use Rattle.aig_check_commands.specs.declared.command.PairCommand.TheVariants as on_pair
 use Rattle.aig_answers.specs.Goals.{goal_of, last_step, proof_count}
 use Rattle.aig_answers.specs.declared.goals.goal.Goal.{Goal}
 use Rattle.aig_answers.specs.declared.goals.goal.Goal.TheVariants as goals
@@ -118,7 +117,7 @@ command_of actions.Certified k distinct optimize =
     check_of (subjects.Certified Own) certificate_goal optimize
 command_of (actions.Equal starts) k distinct optimize =
     check_of (subjects.Miter (of_both starts)) (goals.Refuted k) optimize
-command_of actions.Obligations k distinct optimize = commands.Pair (on_pair.Obligations optimize)
+command_of actions.Obligations k distinct optimize = commands.Obligations optimize
 command_of actions.Bounded k distinct optimize =
     commands.Print (asked_with optimize (asks.UpTo k))
 command_of actions.RefutedTo k distinct optimize = check_of own_file (goals.RefutedTo k) optimize
@@ -271,7 +270,7 @@ path_count subject = 2
 abbrev pub paths_of : Command → ℕ
 paths_of (commands.File c) = 1
 paths_of (commands.Print q) = 1
-paths_of (commands.Pair c) = 2
+paths_of (commands.Obligations optimize) = 2
 paths_of (commands.Check subject goal base_optimize step_optimize) = path_count subject
 paths_of (commands.Simulated optimize) = 2
 paths_of (commands.Obligation condition optimize) = 2
@@ -279,7 +278,7 @@ paths_of (commands.Obligation condition optimize) = 2
 -- how many are given beside these
 abbrev pub beside_of : Command → ℕ
 beside_of (commands.Print q) = 0
-beside_of (commands.Pair (on_pair.Obligations optimize)) = 0
+beside_of (commands.Obligations optimize) = 0
 beside_of (commands.Check (subjects.MiterCertified comparison) goal base_optimize step_optimize) =
     proof_count goal + 1
 beside_of (commands.Check subject goal base_optimize step_optimize) = proof_count goal

@@ -1,7 +1,7 @@
 -- Part of what is promised.
 -- What is told of an error: the path of the file that it is about, and the place where reading that
 -- file stopped.
-use Rattle.std.specs.Prelude.{◌≡◌, ℕ, ◌+◌, ◌⊎◌, List, ◌++◌, Contains, Option, None, Some, Result, Err, IfSome, length, map, slice_get}
+use Rattle.std.specs.Prelude.{◌≡◌, ℕ, ◌+◌, ◌⊎◌, Bool, false, List, ◌++◌, Contains, Option, None, Some, Result, Err, IfSome, length, map, slice_get}
 use Rattle.aig_command_line.specs.Came.{IsPlaceIn}
 use Rattle.aig_command_line.specs.Faults.{error_of, path_of, place_in}
 use Rattle.aig_command_line.specs.Places.{IsPlaced}
@@ -20,8 +20,6 @@ use Rattle.aig_check_commands.specs.declared.command.Asked.{Asked}
 use Rattle.aig_check_commands.specs.declared.error.CheckError.{CheckError}
 use Rattle.aig_check_commands.specs.Subjects.{about_error}
 use Rattle.aig_check_commands.specs.Acting.{RanOn}
-use Rattle.aig_check_commands.specs.Inputs.{Stream, bytes_of, has_failed}
-use Rattle.aig_check_commands.specs.Living.{keeps_nothing, never_fails}
 use Rattle.aig_check_commands.specs.Opening.{AreOpened}
 use Rattle.aig_check_commands.specs.CommandWords.{IsCall}
 
@@ -50,6 +48,23 @@ IsPathOf opens subjects.Unopened paths further path =
 IsPathOf opens subject paths further path = path ≡ word_of subject paths further
 
 -- ---- places
+
+-- the bytes of a file that are left, where they are known, and whether a read of it failed
+abbrev pub Stream : Type 0
+Stream = Option (List ℕ) × Bool
+
+abbrev pub bytes_of : Stream → Option (List ℕ)
+bytes_of s = s.0
+
+abbrev pub has_failed : Stream → Bool
+has_failed s = s.1
+
+-- the writer that keeps nothing holds nothing that is known, and never fails
+abbrev pub keeps_nothing : Discarded → Option (List ℕ)
+keeps_nothing w = None
+
+abbrev pub never_fails : Discarded → Bool
+never_fails w = false
 
 -- what is asked is refused so, of files of these bytes, and the one of this number was read up to
 -- this place: FILE has the number 0

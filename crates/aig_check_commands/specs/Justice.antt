@@ -10,7 +10,6 @@ use Rattle.aig_subjects.specs.declared.subject.Subject.TheVariants as subjects
 use Rattle.aig_check_commands.specs.Goals.{is_asked_of}
 use Rattle.aig_check_commands.specs.declared.command.Command.{Command}
 use Rattle.aig_check_commands.specs.declared.command.Command.TheVariants as commands
-use Rattle.aig_check_commands.specs.declared.command.PairCommand.TheVariants as on_pair
 use Rattle.aig_check_commands.specs.declared.justice.Justice.{Justice}
 
 -- ---- words
@@ -64,7 +63,7 @@ is_asked a (commands.Check subject goal base step) =
     (is_none a || not (compares_files subject)) && is_asked_of (subject_of a subject) goal
 is_asked None c = true
 is_asked (Some a) (commands.Print q) = true
-is_asked (Some a) (commands.Pair (on_pair.Obligations optimize)) = true
+is_asked (Some a) (commands.Obligations optimize) = true
 is_asked (Some a) (commands.Simulated optimize) = true
 is_asked (Some a) (commands.Obligation condition optimize) = true
 is_asked (Some a) c = false

@@ -7,17 +7,13 @@ pub mod Printed
 pub mod Running
 pub mod EqualLines
 pub mod Goals
-pub mod Made
 pub mod Checked
 pub mod Pairs
 pub mod Questions
 pub mod Printing
 pub mod Fits
-pub mod Inputs
 pub mod Help
 pub mod Opening
-pub mod Living
-pub mod LivingParts
 pub mod Simulating
 pub mod Acting
 pub mod Subjects

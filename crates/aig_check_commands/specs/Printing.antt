@@ -4,8 +4,7 @@ use Rattle.std.specs.Prelude.{◌≡◌, ◌⊎◌, ℕ, ◌+◌, Bool, List, []
 use Rattle.aig_answers.specs.declared.windows.WindowClauses.{WindowClauses}
 use Rattle.aig_base.specs.Formula.{clauses_in}
 use Rattle.aig_base.specs.declared.logic.literal.Lit.{Lit}
-use Rattle.aig_answers.specs.declared.certificates.asking.Obligations.{Obligations}
-use Rattle.aig_circuit.specs.Circuit.{Circuit}
+use Rattle.aig_circuit.specs.Circuit.{Circuit, IsCircuit}
 use Rattle.aig_circuit.specs.View.{lists_circuit}
 use Rattle.aig_cnf.specs.Cnf.{HasClauses}
 use Rattle.aig_dimacs.specs.Text.{IsFormula, dimacs_of}
@@ -16,21 +15,37 @@ use Rattle.aig_check_commands.specs.Titles.{title_text}
 use Rattle.aig_check_commands.specs.declared.titles.title.Title.{Title}
 use Rattle.aig_witness.specs.Witness.{Witness, witness_text}
 use Rattle.aig_witness.specs.Shown.{IsKnownWitness}
-use Rattle.aig_check_commands.specs.Pairs.{part_text}
-use Rattle.aig_answers.specs.Plans.{HasNone}
+use Rattle.aig_check_commands.specs.Pairs.{AreSummed, TellsOfJoint, obligation_answer, part_text}
+use Rattle.aig_answers.specs.Answers.{AreWrittenFrom, AskWith, IsCircuitQuery, query_with}
+use Rattle.aig_answers.specs.Plans.{HasNone, plan_certified, room_of}
+use Rattle.aig_answers.specs.declared.goals.error.GoalFault.{GoalFault}
+use Rattle.aig_answers.specs.declared.goals.error.GoalFault.TheVariants as faults
 use Rattle.aig_answers.specs.declared.plans.asking.Question.{Question}
 use Rattle.aig_answers.specs.declared.plans.errors.PlanError.TheVariants as plans
 use Rattle.aig_answers.specs.declared.plans.errors.Why.TheVariants as whys
 use Rattle.aig_bounded.specs.declared.error.BoundedError.{BoundedError}
 use Rattle.aig_circuit.specs.declared.view.CircuitLists.{CircuitLists}
 use Rattle.aig_edits.specs.declared.edit_error.EditError.{EditError}
+use Rattle.aig_edits.specs.declared.pair_error.PairError.{PairError}
 use Rattle.aig_format.specs.File.{File}
-use Rattle.aig_subjects.specs.Subjects.{IsFileSubject, IsUnmadeFile}
+use Rattle.aig_runs.specs.WindowClauses.{AsksWindow}
+use Rattle.aig_runs.specs.declared.window.Window.TheVariants.{Plain}
+use Rattle.aig_subjects.specs.Subjects.{IsBeside, IsFileSubject, IsUnjoined, IsUnmade, IsUnmadeFile}
+use Rattle.aig_subjects.specs.declared.error.SubjectError.{SubjectError}
 use Rattle.aig_subjects.specs.declared.subject.FileSubject.{FileSubject}
-use Rattle.aig_check_commands.specs.Questions.{IsQuestionText, question_error, summed_text}
-use Rattle.aig_check_commands.specs.Sums.{IsSum}
+use Rattle.aig_subjects.specs.declared.subject.Subject.TheVariants as subjects
+use Rattle.aig_check_commands.specs.Questions.{IsQuestionText, question_error}
+use Rattle.aig_simulated.specs.Simulated.{IsNoQuestion, question_in}
+use Rattle.aig_simulated.specs.declared.claim.Claim.{Claim}
+use Rattle.aig_simulated.specs.declared.error.ConditionError.TheVariants as conditions
+use Rattle.aig_simulated.specs.declared.error.SimulationError.TheVariants as simulation
+use Rattle.aig_simulation.specs.declared.condition.Condition.{Condition}
+use Rattle.aig_simulation.specs.declared.error.QuestionError.{QuestionError}
+use Rattle.aig_check_commands.specs.Simulating.{IsObligationText}
+use Rattle.aig_check_commands.specs.Sums.{IsSum, summed_text}
 use Rattle.aig_check_commands.specs.declared.error.CheckError.{CheckError}
 use Rattle.aig_check_commands.specs.declared.error.CheckError.TheVariants as errors
+use Rattle.aig_check_commands.specs.declared.pairs.Obligations.{Obligations}
 
 -- a front is written, and then the clauses of a circuit and further ones, or a beginning of that,
 -- and the clauses are a formula
@@ -140,3 +155,59 @@ IsTextOfQuestion limit own q m sum (Ok text) = IsQuestionText q m sum text
 IsTextOfQuestion limit own q m sum (Err e) =
     (e ≡ errors.Memory)
     ⊎ ((x : BoundedError) × (e ≡ clauses_error own q x) × HasNone limit q.ask m x)
+
+-- ---- certificates
+
+-- these are the lists of the circuit beside that of a certificate, with the sum of its bytes, or it
+-- is said why there are none
+abbrev pub GivesBeside : Circuit → Option (List ℕ) → File
+    → Result (CircuitLists × List ℕ) PairError → Type 0
+GivesBeside own others g (Ok (lists, sum)) =
+    IsBeside own g (lists_circuit lists) × IsSum others sum
+GivesBeside own others g (Err e) = IsUnjoined own g e
+
+-- so of both files
+abbrev pub GivesJoint : FileSubject → Option (List ℕ) → Option (List ℕ) → List File
+    → Result (CircuitLists × List ℕ × List ℕ) SubjectError → Type 0
+GivesJoint own bytes others files (Ok (lists, sum, beside)) =
+    AreSummed own bytes others files (lists_circuit lists) sum beside
+GivesJoint own bytes others files (Err e) = IsUnmade (subjects.Certified own) files e
+
+-- the parts from which the clauses are written, whichever lists are made of them, ask both
+-- questions of the joint circuit, and can be written
+pub record AreObligationsOf (optimize : Bool) (m : Circuit) (o : Obligations) : Type 0 where
+  pub base : AskWith o.joint.unrolled optimize
+      (λ made. IsCircuitQuery m 0 optimize (query_with o.joint.unrolled made)) o.base
+  pub step : AskWith (lists_circuit o.stepped) optimize
+      (λ made. AsksWindow Plain m 0 optimize made.clauses made.extra) o.step
+  pub circuit : IsCircuit (lists_circuit o.stepped)
+  pub base_written : AreWrittenFrom o.joint.unrolled optimize o.base
+  pub step_written : AreWrittenFrom (lists_circuit o.stepped) optimize o.step
+
+-- they are those, and there is room for them, or it is said why there are none
+abbrev pub AsksJoint : ℕ → Bool → Circuit → Result Obligations GoalFault → Type 0
+AsksJoint limit optimize m (Ok o) =
+    (room_of limit (plan_certified optimize) m ≡ Ok tt) × AreObligationsOf optimize m o
+AsksJoint limit optimize m (Err (faults.Plan e)) = room_of limit (plan_certified optimize) m ≡ Err e
+AsksJoint limit optimize m (Err faults.Memory) = Unit {0}
+AsksJoint limit optimize m (Err (faults.Subject e)) = ⊥
+
+-- what is answered of it
+abbrev pub AnswersJoint : ℕ → FileSubject → Bool → Circuit → List ℕ → List ℕ
+    → Result (List ℕ) CheckError → Type 0
+AnswersJoint limit own optimize m sum beside answer =
+    (made : Result (List ℕ) GoalFault) × (answer ≡ obligation_answer own made)
+    × TellsOfJoint limit optimize m sum beside made
+
+-- ---- witness circuits
+
+-- the answer is the text of the clauses for a condition of a claim, with these sums, or it is said
+-- why there are none
+abbrev pub AnswersClaim : ℕ → Condition → Bool → Claim → List ℕ → List ℕ
+    → Result (List ℕ) CheckError → Type 0
+AnswersClaim limit condition optimize claim sum beside (Ok text) =
+    IsObligationText condition optimize (question_in condition claim) sum beside text
+AnswersClaim limit condition optimize claim sum beside (Err e) =
+    (x : QuestionError)
+    × (e ≡ errors.Simulation (simulation.Condition condition (conditions.Question x)))
+    × IsNoQuestion limit (question_in condition claim) x

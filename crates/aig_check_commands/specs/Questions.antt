@@ -19,22 +19,21 @@ use Rattle.aig_bounded.specs.declared.error.BoundedError.{BoundedError}
 use Rattle.aig_circuit.specs.Circuit.{Circuit}
 use Rattle.aig_dimacs.specs.Reading.{parse_formula}
 use Rattle.aig_dimacs.specs.Text.{dimacs_of}
-use Rattle.aig_edits.specs.Edits.{ReadsFile}
-use Rattle.aig_format.specs.Circuit.{text_of}
+use Rattle.aig_edits.specs.Edits.{IsEditOwn, ReadsFile, edit_verdict}
 use Rattle.aig_format.specs.File.{File}
+use Rattle.aig_reader.specs.Verdicts.{Accepted, Verdict}
 use Rattle.aig_runs.specs.WindowClauses.{AsksWindow}
 use Rattle.aig_subjects.specs.Subjects.{IsFileSubject, IsUnmadeFile}
 use Rattle.aig_subjects.specs.declared.subject.FileSubject.{FileSubject}
-use Rattle.aig_subjects.specs.declared.subject.FileSubject.TheVariants.{Own}
 use Rattle.aig_subjects.specs.declared.subject.Subject.TheVariants as subjects
 use Rattle.aig_check_commands.specs.declared.error.CheckError.{CheckError}
 use Rattle.aig_check_commands.specs.declared.error.CheckError.TheVariants as errors
 use Rattle.aig_check_commands.specs.Bounded.{bounded_comments}
-use Rattle.aig_check_commands.specs.Made.{IsMadeOwn, made_verdict}
+use Rattle.aig_check_commands.specs.Checked.{goal_error}
 use Rattle.aig_check_commands.specs.Comments.{comments_of}
 use Rattle.aig_check_commands.specs.Pairs.{formula_of}
 use Rattle.aig_check_commands.specs.Printed.{Printed}
-use Rattle.aig_check_commands.specs.Sums.{IsSum}
+use Rattle.aig_check_commands.specs.Sums.{IsSum, summed_text}
 use Rattle.aig_check_commands.specs.Titles.{title_text}
 use Rattle.aig_check_commands.specs.Titling.{title_of}
 
@@ -64,11 +63,6 @@ pub record IsQuestionText (q : Question) (m : Circuit) (sum text : List ℕ) : T
       ++ dimacs_of (length made.clauses) (formula_of made)
   pub again : parse_formula text ≡ Some (length made.clauses, formula_of made)
 
--- the text that is summed for the title: FILE's, of these bytes, or that of the made circuit
-abbrev pub summed_text : FileSubject → Option (List ℕ) → Circuit → Option (List ℕ)
-summed_text Own bytes m = bytes
-summed_text own bytes m = Some (text_of m)
-
 -- ---- answers
 
 -- why the question has no clauses: there is no room, as for a check; or what is made for them is
@@ -82,11 +76,7 @@ HasNoClauses limit q m e =
 
 -- the error of a question of FILE's circuit
 abbrev pub question_error : FileSubject → Question → PlanError → CheckError
-question_error own q e = errors.Goal (record {
-  subject = subjects.File own;
-  goal = goal_of q.ask;
-  fault = faults.Plan e;
-})
+question_error own q e = goal_error (subjects.File own) (goal_of q.ask) (faults.Plan e)
 
 -- the question is printed of the circuit, with this sum in the title, or it is said why not
 abbrev pub AnswersQuestion : ℕ → FileSubject → Question → Circuit → List ℕ
@@ -96,6 +86,16 @@ AnswersQuestion limit own q m sum (Ok text) =
 AnswersQuestion limit own q m sum (Err (errors.Goal e)) =
     (why : PlanError) × (errors.Goal e ≡ question_error own q why) × HasNoClauses limit q m why
 AnswersQuestion limit own q m sum (Err e) = e ≡ errors.Memory
+
+-- what an error says of the bytes of FILE: one of what is asked, that they are a file
+abbrev pub made_verdict : CheckError → Verdict
+made_verdict (errors.Unmade e) = edit_verdict e
+made_verdict e = Accepted
+
+-- no path is opened
+abbrev pub IsMadeOwn : CheckError → Type 0
+IsMadeOwn (errors.Unmade e) = IsEditOwn e
+IsMadeOwn e = Unit {0}
 
 -- so of the circuit of FILE that is asked about; or it is said why there is none
 abbrev pub TellsOfClauses : ℕ → FileSubject → Question → Option (List ℕ) → File

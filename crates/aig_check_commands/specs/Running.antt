@@ -25,9 +25,7 @@ use Rattle.aig_answers.specs.declared.bounded_checks.error.BoundedAnswerError.{B
 use Rattle.aig_answers.specs.declared.bounded_checks.error.BoundedAnswerError.TheVariants as bounded
 use Rattle.aig_answers.specs.Asking as bounding
 use Rattle.aig_answers.specs.Asking.{IsAskedWithin, IsOfWitness, bounded_verdict}
-use Rattle.aig_answers.specs.Certificates as certificates
 use Rattle.aig_edits.specs.Edits.{edit_verdict}
-use Rattle.aig_simulated.specs.Simulated as simulating
 use Rattle.aig_witness.specs.declared.solutions.error.SolutionError.{SolutionError}
 use Rattle.aig_witness.specs.Checked.{RefusesSolution, SaysWitness}
 use Rattle.aig_check_commands.specs.Printed.{Printed}
@@ -98,7 +96,6 @@ abbrev pub verdict_of : CheckError → Verdict
 verdict_of (errors.Answer e) = asking.verdict_of e
 verdict_of (errors.Show e) = showing.verdict_of (claims.Show e)
 verdict_of (errors.Solution e) = Accepted
-verdict_of (errors.Certificate e) = certificates.first_verdict e
 verdict_of (errors.Goal e) = Accepted
 verdict_of errors.Write = Accepted
 verdict_of errors.Memory = Short
@@ -106,7 +103,7 @@ verdict_of errors.Open = Refused
 verdict_of (errors.Bounded e) = bounding.verdict_of e
 verdict_of (errors.Lasso e) = showing.verdict_of (claims.Lasso e)
 verdict_of (errors.Unmade e) = edit_verdict e
-verdict_of (errors.Simulation e) = simulating.first_verdict e
+verdict_of (errors.Simulation e) = Accepted
 
 -- the error of a witness that is refused
 abbrev pub error_of_claim : ClaimError → CheckError
@@ -127,7 +124,6 @@ IsErrorOf c e = ⊥
 abbrev pub IsOfFileAlone : CheckError → Type 0
 IsOfFileAlone (errors.Answer e) = Unit {0}
 IsOfFileAlone (errors.Show (shows.File e)) = Unit {0}
-IsOfFileAlone (errors.Bounded (bounded.Refutation e)) = ⊥
 IsOfFileAlone (errors.Bounded (bounded.Solution e)) = ⊥
 IsOfFileAlone (errors.Bounded e) = Unit {0}
 IsOfFileAlone e = ⊥

@@ -6,8 +6,6 @@ use Rattle.aig_answers.specs.declared.error.AnswerError.TheVariants as answers
 use Rattle.aig_bounded.specs.declared.error.BoundedError.TheVariants as questions
 use Rattle.aig_answers.specs.declared.bounded_checks.error.BoundedAnswerError.{BoundedAnswerError}
 use Rattle.aig_answers.specs.declared.bounded_checks.error.BoundedAnswerError.TheVariants as bounded
-use Rattle.aig_answers.specs.declared.certificates.error.CertificateError.{CertificateError}
-use Rattle.aig_answers.specs.declared.certificates.error.CertificateError.TheVariants as certificate
 use Rattle.aig_command_line.specs.declared.tally.Measure.{Measure}
 use Rattle.aig_command_line.specs.declared.tally.Measure.TheVariants as measures
 use Rattle.aig_edits.specs.declared.edit_error.EditError.{EditError}
@@ -96,11 +94,9 @@ about_refutation subject refutation.Binary = found subject measures.Byte
 about_refutation subject e = found subject measures.Proof
 
 -- FILE or the proof about it
-abbrev pub about_answer : Subject → AnswerError → About
-about_answer proof (answers.Encode e) = about_encode e
-about_answer proof answers.NoBads = whole subjects.File
-about_answer proof answers.TooLarge = whole subjects.File
-about_answer proof (answers.Refutation e) = about_refutation proof e
+abbrev pub about_answer : AnswerError → About
+about_answer (answers.Encode e) = about_encode e
+about_answer answers.NoBads = whole subjects.File
 
 -- values that show no bad state
 abbrev pub about_fault : WitnessFault → About
@@ -152,19 +148,12 @@ about_pair beside pair.TooLarge = whole subjects.File
 about_pair beside pair.Memory = nothing
 about_pair beside pair.Write = nothing
 
--- one of two files, or of the proofs about them
-abbrev pub about_certificate : CertificateError → About
-about_certificate (certificate.Pair e) = about_pair subjects.Other e
-about_certificate (certificate.Query e) = about_answer subjects.Given e
-about_certificate (certificate.Window e) = about_answer subjects.Step e
-
 -- FILE, or what is given beside it
 abbrev pub about_bounded : BoundedAnswerError → About
 about_bounded (bounded.Read e) = about_read subjects.File e
 about_bounded bounded.NoBads = whole subjects.File
 about_bounded (bounded.Question questions.TooLarge) = whole subjects.File
 about_bounded (bounded.Question questions.Memory) = nothing
-about_bounded (bounded.Refutation e) = about_refutation subjects.Given e
 about_bounded (bounded.Solution e) = about_solution e
 
 -- the proof of the question at this place of a plan: behind CERT, where that is of a miter
@@ -224,7 +213,7 @@ about_witness_circuit e = about_read subjects.Other e
 
 -- FILE, its witness circuit, or one of the proofs
 abbrev pub about_simulation : SimulationError → About
-about_simulation (simulation.Read e) = about_read subjects.File e
+about_simulation (simulation.File e) = about_edit e
 about_simulation (simulation.Witness e) = about_witness_circuit e
 about_simulation simulation.NoBads = whole subjects.File
 about_simulation (simulation.Sharing e) = about_sharing e
@@ -236,10 +225,9 @@ abbrev pub about_error : CheckError → About
 about_error errors.Open = whole subjects.Unopened
 about_error errors.Memory = nothing
 about_error errors.Write = nothing
-about_error (errors.Answer e) = about_answer subjects.Given e
+about_error (errors.Answer e) = about_answer e
 about_error (errors.Solution e) = about_solution e
 about_error (errors.Show e) = about_show e
-about_error (errors.Certificate e) = about_certificate e
 about_error (errors.Bounded e) = about_bounded e
 about_error (errors.Goal e) = about_goal e
 about_error (errors.Lasso fault) = about_lasso fault

@@ -1,7 +1,11 @@
 -- Part of what is promised.
 -- Sums of the bytes that came of a source. (SHA-256: FIPS 180-4.)
-use Rattle.std.specs.Prelude.{◌≡◌, ℕ, Bool, false, List, Option, IfSome}
+use Rattle.std.specs.Prelude.{◌≡◌, ℕ, Bool, false, List, Option, Some, IfSome}
 use Rattle.std.specs.Io.KnownBytes.{Consumes}
+use Rattle.aig_circuit.specs.Circuit.{Circuit}
+use Rattle.aig_format.specs.Circuit.{text_of}
+use Rattle.aig_subjects.specs.declared.subject.FileSubject.{FileSubject}
+use Rattle.aig_subjects.specs.declared.subject.FileSubject.TheVariants.{Own}
 use Rattle.sha2.specs.Hashers.{Holds256}
 use Rattle.sha2.specs.Sha256.{sha256}
 use Rattle.sha2.specs.declared.Sha256.{Sha256}
@@ -16,3 +20,8 @@ pub record Sums (start left : Option (List ℕ)) (failed : Bool) (hasher : Sha25
 -- where the bytes are known, it is their sum
 abbrev pub IsSum : Option (List ℕ) → List ℕ → Type 0
 IsSum known sum = IfSome known (λ bytes. sum ≡ sha256 bytes)
+
+-- the text that is summed for the title: FILE's, of these bytes, or that of the made circuit
+abbrev pub summed_text : FileSubject → Option (List ℕ) → Circuit → Option (List ℕ)
+summed_text Own bytes m = bytes
+summed_text own bytes m = Some (text_of m)

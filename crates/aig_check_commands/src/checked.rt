@@ -34,7 +34,11 @@ fn write_safety<W: Sink>(w: &mut W, goal: Goal) -> Result<(), StreamFault>
 }
 
 /// Writes what they show of FILE.
-fn write_file<W: Sink>(w: &mut W, own: FileSubject, goal: Goal) -> Result<(), StreamFault>
+pub(crate) fn write_file<W: Sink>(
+    w: &mut W,
+    own: FileSubject,
+    goal: Goal,
+) -> Result<(), StreamFault>
     requires { last_step goal < 2 ^ 32 }
     ensures { WritesOrStops W.held W.failed w.old result (file_line own goal) w.new }
 {

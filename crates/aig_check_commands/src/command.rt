@@ -38,16 +38,6 @@ pub enum FileCommand {
     },
 }
 
-/// What the program is asked to do with two files.
-#[derive(Clone, Copy)]
-pub enum PairCommand {
-    /// Print the clauses that the proofs of `certified` are of.
-    Obligations {
-        /// Whether exclusive ors and choices have clauses of their own.
-        optimize: bool,
-    },
-}
-
 /// What the program is asked to do.
 #[derive(Clone, Copy)]
 pub enum Command {
@@ -55,8 +45,11 @@ pub enum Command {
     File(FileCommand),
     /// Print the clauses of a question of FILE's circuit, and which literals or variables stand for what.
     Print(Question),
-    /// A command on FILE and on CERT or OTHER.
-    Pair(PairCommand),
+    /// Print the clauses that the proofs of FILE's circuit beside CERT are of.
+    Obligations {
+        /// Whether exclusive ors and choices have clauses of their own.
+        optimize: bool,
+    },
     /// Check proofs of FILE, or of FILE and the files behind it.
     Check {
         /// What is asked about.
@@ -345,7 +338,7 @@ impl Action {
             Action::Equal(starts) => {
                 check_of(Subject::Miter(of_both(starts)), Goal::Refuted(k), optimize)
             }
-            Action::Obligations => Command::Pair(PairCommand::Obligations { optimize }),
+            Action::Obligations => Command::Obligations { optimize },
             Action::Bounded => Command::Print(asked_with(optimize, Ask::UpTo(k))),
             Action::RefutedTo => check_of(file, Goal::RefutedTo(k), optimize),
             Action::WitnessTo => Command::File(FileCommand::WitnessTo { k, optimize }),

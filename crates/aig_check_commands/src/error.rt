@@ -4,7 +4,7 @@ ghost use Rattle.std.specs.Prelude.{◌≡◌};
 ghost use Rattle.aig_check_commands.specs.Running.{error_of_claim};
 ghost use Rattle.aig_check_commands.specs.declared.error.CheckError.TheVariants as errors;
 
-use aig_answers::{AnswerError, BoundedAnswerError, CertificateError, GoalError};
+use aig_answers::{AnswerError, BoundedAnswerError, GoalError};
 use aig_base::{MemoryError, StreamFault};
 use aig_edits::EditError;
 use aig_simulated::SimulationError;
@@ -29,9 +29,6 @@ pub enum CheckError {
     /// The witness is refused, or shows no bad state.
     #[error(transparent)]
     Show(ShowError),
-    /// There are no clauses of a certificate's proofs.
-    #[error(transparent)]
-    Certificate(CertificateError),
     /// The answer wasn't written.
     #[error("write failed")]
     Write,
@@ -84,14 +81,6 @@ impl From<ClaimError> for CheckError {
             ClaimError::Show(error) => CheckError::Show(error),
             ClaimError::Lasso(fault) => CheckError::Lasso(fault),
         }
-    }
-}
-
-impl From<CertificateError> for CheckError {
-    ghost from_gives = { λ e r. r ≡ errors.Certificate e };
-
-    fn from(error: CertificateError) -> CheckError {
-        CheckError::Certificate(error)
     }
 }
 

@@ -151,7 +151,7 @@ pub(crate) fn is_asked(justice: Option<Justice>, command: Command) -> bool
         (_, None) => true,
         (
             Command::Print(_)
-            | Command::Pair(_)
+            | Command::Obligations { .. }
             | Command::Simulated { .. }
             | Command::Obligation { .. },
             Some(_),

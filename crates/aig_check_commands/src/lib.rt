@@ -31,7 +31,7 @@ pub use acting::act;
 pub use advising::advise;
 pub use bounded::print_witness_to;
 pub use checked::print_checked;
-pub use command::{Asked, Command, FileCommand, PairCommand, USAGE, parse};
+pub use command::{Asked, Command, FileCommand, USAGE, parse};
 pub use error::CheckError;
 pub use explaining::explain;
 pub use justice::Justice;

@@ -1,70 +1,14 @@
-//! The file that is made of FILE to ask about a justice property, and what is written of the fair runs of FILE.
+//! What is written of the fair runs of FILE.
 
 ghost use Rattle.std.specs.Prelude.{◌≡◌, ◌<◌, ◌^◌, ◌+◌, ◌++◌, ◌∷◌, [], decimal};
-ghost use Rattle.aig_command_line.specs.Limits.{IsLimit};
-ghost use Rattle.aig_edits.specs.Edits.{IsEditOwn, ReadsFile, edit_verdict};
 ghost use Rattle.aig_output.specs.Sinks.{BuffersOrStops, WritesOrStops};
 ghost use Rattle.aig_answers.specs.Goals.{last_step};
 ghost use Rattle.aig_check_commands.specs.Goals.{fair_line, lasso_text, lassos_line, no_run_line};
-ghost use Rattle.aig_check_commands.specs.LivingParts.{MakesText, WritesMade, text_error};
 
-use crate::justice::Justice;
 use crate::printing::write_line;
 use aig_answers::Goal;
-use aig_base::{Sink, Source, StreamFault, ToWrite};
-use aig_edits::{EditError, print_live, print_rounds};
+use aig_base::{Sink, StreamFault};
 use aig_output::OutputBuffer;
-use std::alloc::Global;
-
-// ---- the file that is made
-
-/// Reads a file, and writes the text of the one that is made of it to ask about a justice property.
-fn write_made<R: Source, W: Sink>(
-    alloc: Global,
-    limit: usize,
-    justice: Justice,
-    r: &mut R,
-    w: &mut W,
-) -> Result<(), EditError>
-    requires { IsLimit limit }
-    ensures { ReadsFile R.left R.failed limit (WritesMade W.held W.failed justice w.old w.new)
-        edit_verdict IsEditOwn r.old result r.new }
-{
-    match justice.rounds {
-        None => print_live(alloc, justice.property, r, limit, w),
-        Some(rounds) => print_rounds(alloc, justice.property, rounds, r, limit, w),
-    }
-}
-
-/// The error where a text isn't made in memory: it is memory that takes no more of it.
-fn text_error(error: EditError) -> EditError
-    ensures { result ≡ text_error error }
-{
-    match error {
-        EditError::Write => EditError::Memory,
-        _ => error,
-    }
-}
-
-/// Reads a file, and makes the text of the one that is made of it to ask about a justice property.
-pub(crate) fn made_text<R: Source>(
-    alloc: Global,
-    limit: usize,
-    justice: Justice,
-    r: &mut R,
-) -> Result<Vec<u8>, EditError>
-    requires { IsLimit limit }
-    ensures { ReadsFile R.left R.failed limit (MakesText justice) edit_verdict IsEditOwn r.old
-        result r.new }
-{
-    let mut sink = ToWrite::new(Vec::new(alloc));
-    match write_made(alloc, limit, justice, r, &mut sink) {
-        Ok(()) => Ok(sink.into_inner()),
-        Err(error) => Err(text_error(error)),
-    }
-}
-
-// ---- lines
 
 /// Buffers a text, the number of a justice property, the byte after it, and what comes then.
 fn buffer_about<W: Sink>(
@@ -143,7 +87,7 @@ fn write_lassos<W: Sink>(w: &mut W, goal: Goal, property: usize) -> Result<(), S
 }
 
 /// Writes the line about fair runs.
-pub(crate) fn write_no_run<W: Sink>(w: &mut W, property: usize) -> Result<(), StreamFault>
+fn write_no_run<W: Sink>(w: &mut W, property: usize) -> Result<(), StreamFault>
     ensures { WritesOrStops W.held W.failed w.old result (no_run_line property) w.new }
 {
     write_line(w, b"no fair run of j", property)

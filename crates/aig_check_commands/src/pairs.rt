@@ -1,24 +1,113 @@
-//! What a command does with the bytes of two files.
+//! Printing the clauses that the proofs of a certificate are of: of FILE's own circuit, or of one that is made of it for a justice property.
 
-ghost use Rattle.std.specs.Prelude.{◌≡◌, ◌++◌, ◌∷◌, []};
-ghost use Rattle.aig_answers.specs.Answers.{AreWrittenFrom};
+ghost use Rattle.std.specs.Prelude.{◌≡◌, ◌≤◌, ◌^◌, ◌++◌, ◌∷◌, [], IfOk};
+ghost use Rattle.aig_answers.specs.Answers.{AreWrittenFrom, AskWith};
 ghost use Rattle.aig_circuit.specs.Circuit.{IsCircuit};
 ghost use Rattle.aig_circuit.specs.View.{lists_circuit};
 ghost use Rattle.aig_command_line.specs.Limits.{IsLimit};
-ghost use Rattle.aig_check_commands.specs.Pairs.{RunsPair};
-ghost use Rattle.aig_check_commands.specs.Printing.{WritesBase, WritesBehind, WritesBoth};
+ghost use Rattle.aig_runs.specs.WindowClauses.{AsksWindow};
+ghost use Rattle.aig_runs.specs.declared.window.Window.TheVariants.{Plain};
+ghost use Rattle.aig_unroll.specs.Places.{unrolled_size};
+ghost use Rattle.aig_check_commands.specs.Pairs.{RunsObligations, certified_error};
+ghost use Rattle.aig_check_commands.specs.Printed.{Printed};
+ghost use Rattle.aig_check_commands.specs.Printing.{AnswersJoint, AreObligationsOf, AsksJoint, WritesBase, WritesBehind, WritesBoth};
 
-use crate::command::PairCommand;
 use crate::error::CheckError;
 use crate::printing::{after_writing, tell_circuit};
-use crate::titles::{Summed, Title, Topic, write_title};
-use aig_answers::{ClauseParts, Obligations, obligations_of};
-use aig_base::{Sink, Source, StreamFault};
-use aig_circuit::CircuitView;
-use aig_command_line::{Origin, write_text};
+use crate::sums::read_certified;
+use crate::titles::{Title, Topic, write_title};
+use aig_answers::{
+    Ask, ClauseParts, Goal, GoalError, GoalFault, Window, asked_with, check_room, plans_have_room,
+    query_parts, window_parts,
+};
+use aig_base::{MemoryError, Sink, Source, StreamFault};
+use aig_circuit::{CircuitLists, CircuitView};
+use aig_command_line::write_text;
 use aig_dimacs::write_circuit;
+use aig_runs::Unrolled;
+use aig_subjects::{FileSubject, Subject};
+use aig_unroll::unroll_to;
 use std::alloc::Global;
-use std::marker::Brand;
+
+// ---- clauses
+
+/// What the clauses are written from that the proofs of a certificate are of.
+struct Obligations {
+    /// The joint circuit, with no further step.
+    joint: Unrolled,
+    /// What the clauses of its query for step 0 are written from beside it.
+    base: ClauseParts,
+    /// The joint circuit with one step more.
+    stepped: CircuitLists,
+    /// What the clauses of the joint circuit's plain window of two steps are written from beside it.
+    step: ClauseParts,
+}
+
+impl Drop for Obligations {
+    fn drop(self) {
+        let Obligations {
+            joint: _,
+            base: _,
+            stepped: _,
+            step: _,
+        } = self;
+    }
+}
+
+/// The joint circuit with one step more, and what the clauses of its plain window of two steps are written from beside it.
+fn part_window(
+    alloc: Global,
+    joint: &CircuitView<'_>,
+    optimize: bool,
+) -> Result<(CircuitLists, ClauseParts), MemoryError>
+    requires { unrolled_size joint.now 1 ≤ 2 ^ 31 }
+    ensures circuit { IfOk result (λ made. IsCircuit (lists_circuit made.0)) }
+    ensures written { IfOk result (λ made. AreWrittenFrom (lists_circuit made.0) optimize made.1) }
+    ensures asks { IfOk result (λ made. AskWith (lists_circuit made.0) optimize
+        (λ lists. AsksWindow Plain joint.now 0 optimize lists.clauses lists.extra) made.1) }
+{
+    let stepped = unroll_to(joint, 1)?;
+    let parts = window_parts(alloc, joint, 0, &CircuitView::new(&stepped), optimize)?;
+    Ok((stepped, parts))
+}
+
+/// What the clauses of a joint circuit's query for step 0 and of its window of two steps are written from.
+fn ask_both(alloc: Global, joint: CircuitLists, optimize: bool) -> Result<Obligations, MemoryError>
+    requires circuit { IsCircuit (lists_circuit joint) }
+    requires base { unrolled_size (lists_circuit joint) 0 ≤ 2 ^ 31 }
+    requires step { unrolled_size (lists_circuit joint) 1 ≤ 2 ^ 31 }
+    ensures { IfOk result (AreObligationsOf optimize (lists_circuit joint)) }
+{
+    let joint = Unrolled::new(joint, 0)?;
+    let base = query_parts(alloc, &joint, optimize)?;
+    let (stepped, step) = part_window(alloc, &joint.circuit(), optimize)?;
+    Ok(Obligations {
+        joint,
+        base,
+        stepped,
+        step,
+    })
+}
+
+/// The same, if there is room for the clauses.
+fn ask_joint(
+    alloc: Global,
+    limit: usize,
+    joint: CircuitLists,
+    optimize: bool,
+) -> Result<Obligations, GoalFault>
+    requires limit { IsLimit limit }
+    requires circuit { IsCircuit (lists_circuit joint) }
+    ensures { AsksJoint limit optimize (lists_circuit joint) result }
+{
+    plans_have_room();
+    let base = asked_with(optimize, Ask::Step(0));
+    let step = asked_with(optimize, Ask::Window(0, Window::Plain));
+    check_room(&CircuitView::new(&joint), limit, &[base, step])?;
+    Ok(ask_both(alloc, joint, optimize)?)
+}
+
+// ---- texts
 
 /// Writes the clauses of a circuit and further ones, after a line that names them. No list of them is made.
 fn write_part<W: Sink>(
@@ -73,50 +162,78 @@ fn write_obligations<W: Sink>(
     write_part(w, b"c step", &stepped, optimize, &asked.step)
 }
 
-/// Prints the clauses of a certificate of the files whose bytes are the origins.
-fn print_obligations_of<R: Source + Drop, S: Source + Drop, A: Origin, B: Origin, W: Sink>(
-    alloc: Global,
-    limit: usize,
-    optimize: bool,
-    file: R,
-    certificate: S,
-    w: &mut W,
-) -> Result<(), CheckError>
-    requires origin { R.left file ≡ A.bytes }
-    requires beside { S.left certificate ≡ B.bytes }
-    requires limit { IsLimit limit }
-    ensures { let command = PairCommand.Obligations optimize in
-        (rest : R) × (other : S)
-        × RunsPair R.left R.failed S.left S.failed W.held W.failed command limit file certificate
-        w.old result rest other w.new }
+// ---- commands
+
+/// The error of a certificate.
+fn certified_error(own: FileSubject, fault: GoalFault) -> CheckError
+    ensures { result ≡ certified_error own fault }
 {
-    let mut first = Summed::<R, A>::new(file);
-    let mut second = Summed::<S, B>::new(certificate);
-    let asked = obligations_of(alloc, &mut first, &mut second, limit, optimize)?;
-    let title = Title {
-        topic: Topic::Obligations,
-        optimize,
-        sum: first.finish(),
-        beside: Some(second.finish()),
-    };
-    after_writing(write_obligations(w, &title, &asked, optimize))
+    CheckError::Goal(GoalError {
+        subject: Subject::Certified(own),
+        goal: Goal::SafeBySteps(0, Window::Plain),
+        fault,
+    })
 }
 
-/// Prints the clauses that the proofs of a certificate are of, behind their title: after the line `c base` those of which BASE is a
-/// proof, and after the line `c step` those of which STEP is one.
-pub fn print_obligations<R: Source + Drop, S: Source + Drop, W: Sink>(
+/// Prints the clauses of a joint circuit behind their title, which has these sums, if there is room for them.
+fn print_joint<W: Sink>(
     alloc: Global,
     limit: usize,
+    own: FileSubject,
     optimize: bool,
-    file: R,
+    joint: CircuitLists,
+    sum: [u8; 32],
+    beside: [u8; 32],
+    w: &mut W,
+) -> Result<(), CheckError>
+    requires limit { IsLimit limit }
+    requires circuit { IsCircuit (lists_circuit joint) }
+    ensures { Printed W.held W.failed
+        (AnswersJoint limit own optimize (lists_circuit joint) sum beside) w.old result w.new }
+{
+    match ask_joint(alloc, limit, joint, optimize) {
+        Ok(asked) => {
+            let title = Title {
+                topic: Topic::Obligations,
+                optimize,
+                sum,
+                beside: Some(beside),
+            };
+            after_writing(write_obligations(w, &title, &asked, optimize))
+        }
+        Err(fault) => Err(certified_error(own, fault)),
+    }
+}
+
+/// Prints the clauses that the proofs of a certificate of FILE's circuit are of, or of the one that is made of it for a justice property,
+/// behind their title, with the sum of FILE's bytes, or of the made circuit's text, and that of CERT's bytes: after the line `c base` those
+/// of which BASE is a proof, and after the line `c step` those of which STEP is one. No list of those of gates is made.
+///
+/// # Errors
+///
+/// Only after `Write` something was written.
+///
+/// - `Goal`: a file is refused, there is no joint circuit or no room for the clauses, as `aig_answers::check_goal` says of a certificate,
+///   or memory was refused.
+/// - `Write`: the writer failed.
+pub fn print_obligations<S: Source + Drop, W: Sink>(
+    alloc: Global,
+    limit: usize,
+    own: FileSubject,
+    optimize: bool,
+    file: S,
     certificate: S,
     w: &mut W,
 ) -> Result<(), CheckError>
     requires { IsLimit limit }
-    ensures { let command = PairCommand.Obligations optimize in
-        (rest : R) × (other : S)
-        × RunsPair R.left R.failed S.left S.failed W.held W.failed command limit file certificate
-        w.old result rest other w.new }
+    ensures { (rest : S) × (other : S)
+        × RunsObligations S.left S.failed W.held W.failed limit own optimize file certificate w.old
+        result rest other w.new }
 {
-    print_obligations_of::<R, S, Brand, Brand, W>(alloc, limit, optimize, file, certificate, w)
+    let read = match read_certified(alloc, limit, own, file, certificate) {
+        Ok(read) => read,
+        Err(error) => return Err(certified_error(own, GoalFault::Subject(error))),
+    };
+    let (joint, sum, beside) = read;
+    print_joint(alloc, limit, own, optimize, joint, sum, beside, w)
 }

@@ -47,9 +47,6 @@ fn is_same_bounded(first: BoundedAnswerError, second: BoundedAnswerError) -> boo
     ensures { result ≡ true → first ≡ second }
 {
     match (first, second) {
-        (BoundedAnswerError::Refutation(first), BoundedAnswerError::Refutation(second)) => {
-            is_same_refutation(first, second)
-        }
         (BoundedAnswerError::Solution(first), BoundedAnswerError::Solution(second)) => {
             is_same_solution(first, second)
         }

@@ -5,9 +5,7 @@ ghost use Rattle.aig_simulated.specs.Simulated.{turn_of};
 ghost use Rattle.aig_check_commands.specs.Subjects as specs;
 
 use crate::error::CheckError;
-use aig_answers::{
-    AnswerError, BoundedAnswerError, CertificateError, GoalError, GoalFault, PlanError, Why,
-};
+use aig_answers::{AnswerError, BoundedAnswerError, GoalError, GoalFault, PlanError, Why};
 use aig_bounded::BoundedError;
 use aig_command_line::Measure;
 use aig_edits::{EditError, PairError};
@@ -121,14 +119,13 @@ fn about_refutation(subject: Subject, error: RefutationError) -> About
     }
 }
 
-/// What an error of an answer is about, of which this is the proof.
-fn about_answer(proof: Subject, error: AnswerError) -> About
-    ensures { result ≡ specs.about_answer proof error }
+/// What an error of an answer is about.
+fn about_answer(error: AnswerError) -> About
+    ensures { result ≡ specs.about_answer error }
 {
     match error {
         AnswerError::Encode(error) => about_encode(error),
-        AnswerError::NoBads | AnswerError::TooLarge => whole(Subject::File),
-        AnswerError::Refutation(error) => about_refutation(proof, error),
+        AnswerError::NoBads => whole(Subject::File),
     }
 }
 
@@ -215,17 +212,6 @@ fn about_pair(other: Subject, error: PairError) -> About
     }
 }
 
-/// What an error of a certificate is about.
-fn about_certificate(error: CertificateError) -> About
-    ensures { result ≡ specs.about_certificate error }
-{
-    match error {
-        CertificateError::Pair(error) => about_pair(Subject::Other, error),
-        CertificateError::Query(error) => about_answer(Subject::Given, error),
-        CertificateError::Window(error) => about_answer(Subject::Step, error),
-    }
-}
-
 /// What an error of a bounded check is about.
 fn about_bounded(error: BoundedAnswerError) -> About
     ensures { result ≡ specs.about_bounded error }
@@ -236,7 +222,6 @@ fn about_bounded(error: BoundedAnswerError) -> About
             whole(Subject::File)
         }
         BoundedAnswerError::Question(BoundedError::Memory) => NOTHING,
-        BoundedAnswerError::Refutation(error) => about_refutation(Subject::Given, error),
         BoundedAnswerError::Solution(error) => about_solution(error),
     }
 }
@@ -357,7 +342,7 @@ fn about_simulation(error: SimulationError) -> About
     ensures { result ≡ specs.about_simulation error }
 {
     match error {
-        SimulationError::Read(error) => about_read(Subject::File, error),
+        SimulationError::File(error) => about_edit(error),
         SimulationError::Witness(error) => about_witness_circuit(error),
         SimulationError::NoBads => whole(Subject::File),
         SimulationError::Sharing(error) => about_sharing(error),
@@ -373,10 +358,9 @@ pub(crate) fn about_error(error: CheckError) -> About
     match error {
         CheckError::Open => whole(Subject::Unopened),
         CheckError::Memory | CheckError::Write => NOTHING,
-        CheckError::Answer(error) => about_answer(Subject::Given, error),
+        CheckError::Answer(error) => about_answer(error),
         CheckError::Solution(error) => about_solution(error),
         CheckError::Show(error) => about_show(error),
-        CheckError::Certificate(error) => about_certificate(error),
         CheckError::Bounded(error) => about_bounded(error),
         CheckError::Goal(error) => about_goal(error),
         CheckError::Lasso(fault) => about_lasso(fault),

@@ -1,6 +1,6 @@
 -- Turns of conditions, the questions of a small witness circuit and what errors say, computed; and
 -- wrong answers, of which the definitions are false.
-use Rattle.aig_simulated.proofs.Words.{◌≡◌, ◌≢◌, ℕ, ◌*◌, ◌<◌, ◌≤◌, ◌∙◌, Bool, true, false, codes, None, Option, Some, Ok, Err, List, [], ◌∷◌, length, slice_index_or, refl, ap, subst, arith, empty, AigEdge, edge_to, no_properties, File, circuit_of, node_in, circuit_with_resets, Accepted, Refused, model_leaf, question_of, IsFor, Condition, Transition, Property, Base, Step, Claim, ConditionError, Certifies, Claims, IsNoQuestion, IsOfObligation, IsQuestionOf, LeavesProof, Obliges, Proofs, TellsOfQuestion, first_verdict, proof_for, proofs_of, refusal_of}
+use Rattle.aig_simulated.proofs.Words.{◌≡◌, ◌≢◌, ℕ, ◌*◌, ◌<◌, ◌≤◌, ◌∙◌, Bool, true, false, codes, None, Option, Some, Ok, Err, List, [], ◌∷◌, length, slice_index_or, refl, ap, subst, sym, arith, empty, AigEdge, edge_to, no_properties, File, circuit_of, node_in, circuit_with_resets, model_leaf, question_of, IsFor, Condition, Transition, Property, Base, Step, Claim, ConditionError, ChecksModel, Claims, IsNoQuestion, IsOfObligation, IsQuestionOf, LeavesProof, Proofs, TellsOfQuestion, file_error, proof_for, proofs_of, refusal_of}
 use Rattle.aig_circuit.specs.declared.node.AigNodeType.{AigNodeType}
 use Rattle.aig_circuit.specs.declared.node.AigNodeType.TheVariants.{False, Leaf}
 use Rattle.aig_circuit.specs.declared.node.AigNode.{AigNode}
@@ -8,18 +8,19 @@ use Rattle.aig_circuit.proofs.Words.{Circuit}
 use Rattle.aig_format.specs.declared.FileKind.TheVariants.{Text}
 use Rattle.aig_format.specs.Text.{value_of}
 use Rattle.aig_format.specs.Numbering.{node_of_variable, variables_in_order}
+use Rattle.aig_edits.specs.declared.edit_error.EditError.TheVariants as edit
 use Rattle.aig_reader.specs.declared.error.ReadError.TheVariants as read
-use Rattle.aig_refutation.specs.declared.error.RefutationError.{RefutationError}
 use Rattle.aig_refutation.specs.declared.error.RefutationError.TheVariants as refutation
 use Rattle.aig_simulation.proofs.Alike.{same_digits}
 use Rattle.aig_simulation.specs.declared.error.QuestionError.TheVariants as questions
+use Rattle.aig_subjects.specs.declared.subject.FileSubject.TheVariants.{Own}
 use Rattle.aig_simulated.specs.declared.error.ConditionError.TheVariants as conditions
 use Rattle.aig_simulated.specs.declared.error.SimulationError.TheVariants as errors
 
 -- ---- errors
 
 -- a witness circuit with a bad header says nothing of the file
-witness-refused : (first_verdict (errors.Witness read.Header) ≡ Accepted)
+witness-refused : (file_error (errors.Witness read.Header) ≡ None)
     × (refusal_of (errors.Witness read.Header) ≡ Some read.Header)
 witness-refused = (refl, refl)
 
@@ -28,8 +29,8 @@ no_circle_unread : refusal_of errors.Circular ≢ Some read.Header
 no_circle_unread is = cc
 
 -- the file is refused for it
-no_file_refused : first_verdict (errors.Witness read.Header) ≢ Refused
-no_file_refused is = let said : Accepted ≡ Refused = is in cc
+no_file_refused : file_error (errors.Witness read.Header) ≢ Some (edit.Read read.Header)
+no_file_refused is = cc
 
 -- clauses for one condition are refused for another, or as a proof would be
 no_other_condition : ¬ IsOfObligation Base
@@ -108,7 +109,8 @@ unfolding node_of_variable variables_in_order
 step-question = refl
 
 -- the question for `step` is asked for `base`
-no_step_for_base : ¬ IsQuestionOf Base toggled toggled (asking (edge_to 1 true))
+no_step_for_base : ¬ IsQuestionOf Base (node_in toggled) (circuit_of toggled)
+    (circuit_with_resets toggled) (asking (edge_to 1 true))
 unfolding node_of_variable variables_in_order
 no_step_for_base is =
     let bad : 1 ≡ 0 =
@@ -190,27 +192,25 @@ staying-nodes = refl
 abbrev silent : File
 silent = record toggled { properties = no_properties }
 
-silent-claim : Claims silent toggled (Err errors.NoBads)
-silent-claim = refl
+silent-claim : Claims Own silent toggled (Err errors.NoBads)
+silent-claim = (circuit_of silent, refl, refl)
 
 -- it is claimed to be safe
-no_claim : (claim : Claim) → ¬ Claims silent toggled (Ok claim)
-no_claim claim told = told.0 refl
+no_claim : (claim : Claim) → ¬ Claims Own silent toggled (Ok claim)
+no_claim claim told = told.2.0 (ap (λ (c : Circuit). c.properties.bads) told.1)
 
 -- a bad literal is passed over
-no_bads_lost : ¬ Claims toggled toggled (Err errors.NoBads)
-no_bads_lost told = let none : 1 ≡ 0 = ap length told in omega (arith, none)
+no_bads_lost : ¬ Claims Own toggled toggled (Err errors.NoBads)
+no_bads_lost told =
+    let bads = sym (ap (λ (c : Circuit). c.properties.bads) told.1) ∙ told.2 in
+    let none : 1 ≡ 0 = ap length bads in omega (arith, none)
 
 -- `step` isn't shown, and `base` was passed over, whose question doesn't fit
 no_base_passed : (optimize : Bool) (texts : Condition → Option (List ℕ)) (e : ConditionError)
-    → ¬ Certifies 1 optimize texts toggled toggled (Err (errors.Condition Step e))
+    → ¬ ChecksModel 1 optimize texts (node_in toggled) (circuit_of toggled)
+    (circuit_with_resets toggled) (Err (errors.Condition Step e))
 unfolding node_of_variable variables_in_order
 no_base_passed optimize texts e told =
     let base = told.1 Base (omega arith) in
     let few : 2 ≤ 1 = subst (λ (q : Circuit). length q.nodes ≤ 1) base.1.2 base.2.0 in
     omega (arith, few)
-
--- clauses are refused as a proof would be
-no_clauses_checked : (limit : ℕ) (optimize : Bool) (f g : File) (e : RefutationError)
-    → ¬ Obliges limit optimize Base f g (Err (errors.Condition Base (conditions.Refutation e)))
-no_clauses_checked limit optimize f g e told = told

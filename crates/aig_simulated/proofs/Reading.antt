@@ -1,70 +1,133 @@
 -- What a call that reads a file and a witness circuit tells, by parts, and from what another told.
-use Rattle.aig_simulated.proofs.Words.{◌≡◌, ℕ, Bool, false, List, None, Option, Result, sym, subst, ◌∙◌, IfErr, IfSome, IsAtEnd, File, Accepts, IsNumberedOf, IsReadAs, AcceptsWithResets, AreListsWithResets, SaysWhy, Accepted, Judges, Verdict, verdict_by, ReadsWitness, refusal_by}
+use Rattle.aig_simulated.proofs.Words.{◌≡◌, ℕ, Bool, false, List, None, Option, Result, Ok, Err, Some, refl, sym, subst, ◌∙◌, IfErr, IfSome, IsAtEnd, EditError, File, Accepts, GivesModel, IsEditOwn, IsReadAs, AcceptsWithResets, AreListsWithResets, ReadsFile, SaysWhy, Accepted, Judges, edit_verdict, file_verdict, part_of, ReadsWitness}
 use Rattle.aig_circuit.specs.declared.view.CircuitLists.{CircuitLists}
 use Rattle.aig_reader.specs.declared.error.ReadError.{ReadError}
 use Rattle.aig_reader.specs.declared.variable_nodes.NumberedLists.{NumberedLists}
+use Rattle.aig_subjects.specs.Subjects.{IsUnmadeFile}
+use Rattle.aig_subjects.specs.declared.subject.FileSubject.{FileSubject}
+
+some_not_none : {A : Type 0} (x : A) → ¬ (Some x ≡ None)
+some_not_none x is = cc
 
 module _ {R S : Type 0} (left : R → Option (List ℕ)) (failed : R → Bool)
-    (left_of : S → Option (List ℕ)) (failed_of : S → Bool) (limit : ℕ) (r : R) (s : S) (rest : R)
-    (other : S) where
-  -- both were taken
-  pub both_taken : {X F : Type 0} (own : NumberedLists) (theirs : CircuitLists)
-      (Means : File → File → Result X F → Type 0) (first : F → Verdict)
-      (refusal : F → Option ReadError) (Own : F → Type 0) (made : Result X F)
-      → Judges (λ _. Accepted) limit (left r) (left rest) (failed rest) Accepted
-      → (failed_of other ≡ false) × IsAtEnd (left_of other)
-      → IsReadAs (λ bytes. Accepts bytes limit) IsNumberedOf (left r) (left rest) own
-      → IsReadAs (AcceptsWithResets limit) AreListsWithResets (left_of s) (left_of other) theirs
-      → verdict_by first made ≡ Accepted → refusal_by refusal made ≡ None → IfErr made Own
-      → ((f g : File) → IsNumberedOf f own → AreListsWithResets g theirs → Means f g made)
-      → ReadsWitness left failed left_of failed_of limit Means first refusal Own r s made rest other
-  both_taken own theirs Means first refusal Own made told whole f g same none errors means = record {
-    verdict = subst (Judges (λ _. Accepted) limit (left r) (left rest) (failed rest)) (sym same)
-        told;
-    refused = λ h.
-        subst (λ (o : Option ReadError). IfSome o
-        (SaysWhy (AcceptsWithResets limit) limit (left_of s) (failed_of other))) (sym none) tt;
-    unread = λ h. absurd (h same);
-    whole = λ h k. whole;
-    answer = λ h k. record {
-      file = f.file;
-      bytes = f.bytes;
-      holds = f.holds;
-      means = record {
-        file = g.file;
-        bytes = g.bytes;
-        holds = g.holds;
-        means = means f.file g.file f.means g.means;
-        taken = g.taken;
-      };
-      taken = f.taken;
-    };
-    own = errors;
+    (left_of : S → Option (List ℕ)) (failed_of : S → Bool) (limit : ℕ) (own : FileSubject) (r : R)
+    (s : S) (rest : R) (other : S) where
+  abbrev SaidOfFile : Option EditError → Type 0
+  SaidOfFile o = Judges (λ _. Accepted) limit (left r) (left rest) (failed rest) (file_verdict o)
+
+  abbrev Unmade : Option EditError → Type 0
+  Unmade o =
+      IfSome o
+      (λ e. edit_verdict e ≡ Accepted
+      → IsReadAs (λ bytes. Accepts bytes limit) (IsUnmadeFile own) (left r) (left rest) e)
+
+  abbrev Unread : Option EditError → Type 0
+  Unread o = IfSome o (λ _. other ≡ s)
+
+  abbrev SaidOfWitness : Option ReadError → Type 0
+  SaidOfWitness o =
+      IfSome o (SaysWhy (AcceptsWithResets limit) limit (left_of s) (failed_of other))
+
+  -- the file is refused, or nothing is made of it
+  pub file_alone : {X F : Type 0} (Means : File → File → Result X F → Type 0)
+      (of_file : F → Option EditError) (refusal : F → Option ReadError) (Own : F → Type 0) (x : F)
+      (e : EditError) → of_file x ≡ Some e → other ≡ s
+      → ReadsFile left failed limit (GivesModel own) edit_verdict IsEditOwn r (Err e) rest → Own x
+      → ReadsWitness left failed left_of failed_of limit own Means of_file refusal Own r s (Err x)
+      rest other
+  file_alone Means of_file refusal Own x e same unread told errors = record {
+    verdict = subst SaidOfFile (sym same) told.verdict;
+    unmade = subst Unmade (sym same) (λ taken.
+        let read = told.answer taken in
+        record {
+          file = read.file;
+          bytes = read.bytes;
+          holds = read.holds;
+          means = read.means;
+          taken = read.taken;
+        });
+    unread = subst Unread (sym same) unread;
+    refused = λ h. absurd (some_not_none e (sym same ∙ h));
+    whole = λ h k. absurd (some_not_none e (sym same ∙ h));
+    answer = λ h k. absurd (some_not_none e (sym same ∙ h));
+    errors = errors;
   }
+
+  -- the witness circuit is refused
+  pub witness_refused : {X F : Type 0} (read : NumberedLists)
+      (Means : File → File → Result X F → Type 0) (of_file : F → Option EditError)
+      (refusal : F → Option ReadError) (Own : F → Type 0) (x : F) (e : ReadError)
+      → of_file x ≡ None → refusal x ≡ Some e
+      → ReadsFile left failed limit (GivesModel own) edit_verdict IsEditOwn r (Ok read) rest
+      → SaidOfWitness (Some e) → Own x
+      → ReadsWitness left failed left_of failed_of limit own Means of_file refusal Own r s (Err x)
+      rest other
+  witness_refused read Means of_file refusal Own x e same some told why errors = record {
+    verdict = subst SaidOfFile (sym same) told.verdict;
+    unmade = subst Unmade (sym same) tt;
+    unread = subst Unread (sym same) tt;
+    refused = λ h. subst SaidOfWitness (sym some) why;
+    whole = λ h k. absurd (some_not_none e (sym some ∙ k));
+    answer = λ h k. absurd (some_not_none e (sym some ∙ k));
+    errors = errors;
+  }
+
+  -- both were taken
+  pub both_taken : {X F : Type 0} (read : NumberedLists) (theirs : CircuitLists)
+      (Means : File → File → Result X F → Type 0) (of_file : F → Option EditError)
+      (refusal : F → Option ReadError) (Own : F → Type 0) (made : Result X F)
+      → ReadsFile left failed limit (GivesModel own) edit_verdict IsEditOwn r (Ok read) rest
+      → (failed_of other ≡ false) × IsAtEnd (left_of other)
+      → IsReadAs (AcceptsWithResets limit) AreListsWithResets (left_of s) (left_of other) theirs
+      → part_of of_file made ≡ None → part_of refusal made ≡ None → IfErr made Own
+      → ((f g : File) → GivesModel own f (Ok read) → AreListsWithResets g theirs → Means f g made)
+      → ReadsWitness left failed left_of failed_of limit own Means of_file refusal Own r s made rest
+      other
+  both_taken read theirs Means of_file refusal Own made told whole g same none errors means =
+      let f = told.answer refl in
+      record {
+        verdict = subst SaidOfFile (sym same) told.verdict;
+        unmade = subst Unmade (sym same) tt;
+        unread = subst Unread (sym same) tt;
+        refused = λ h. subst SaidOfWitness (sym none) tt;
+        whole = λ h k. whole;
+        answer = λ h k. record {
+          file = f.file;
+          bytes = f.bytes;
+          holds = f.holds;
+          means = record {
+            file = g.file;
+            bytes = g.bytes;
+            holds = g.holds;
+            means = means f.file g.file f.means g.means;
+            taken = g.taken;
+          };
+          taken = f.taken;
+        };
+        errors = errors;
+      }
 
   -- A call goes on from what another told: it says the same of the bytes, and means something of
   -- the same files.
   pub reads_on : {T E X F : Type 0} {Means : File → File → Result T E → Type 0}
-      {first : E → Verdict} {refusal : E → Option ReadError} {Own : E → Type 0}
-      {result : Result T E} (Also : File → File → Result X F → Type 0) (also_first : F → Verdict)
-      (also_refusal : F → Option ReadError) (AlsoOwn : F → Type 0) (made : Result X F)
-      → ReadsWitness left failed left_of failed_of limit Means first refusal Own r s result rest
-      other
-      → verdict_by also_first made ≡ verdict_by first result
-      → refusal_by also_refusal made ≡ refusal_by refusal result → IfErr made AlsoOwn
+      {of_file : E → Option EditError} {refusal : E → Option ReadError} {Own : E → Type 0}
+      {result : Result T E} (Also : File → File → Result X F → Type 0)
+      (also_of_file : F → Option EditError) (also_refusal : F → Option ReadError)
+      (AlsoOwn : F → Type 0) (made : Result X F)
+      → ReadsWitness left failed left_of failed_of limit own Means of_file refusal Own r s result
+      rest other
+      → part_of also_of_file made ≡ part_of of_file result
+      → part_of also_refusal made ≡ part_of refusal result → IfErr made AlsoOwn
       → ((f g : File) (bytes others : List ℕ) → Accepts bytes limit f
       → AcceptsWithResets limit others g → Means f g result → Also f g made)
-      → ReadsWitness left failed left_of failed_of limit Also also_first also_refusal AlsoOwn r s
-      made rest other
-  reads_on {result = result} Also also_first also_refusal AlsoOwn made told same also_same own means
+      → ReadsWitness left failed left_of failed_of limit own Also also_of_file also_refusal AlsoOwn r
+      s made rest other
+  reads_on {result = result} Also also_of_file also_refusal AlsoOwn made told same also_same own means
       = record {
-        verdict = subst (Judges (λ _. Accepted) limit (left r) (left rest) (failed rest)) (sym same)
-            told.verdict;
-        refused = λ h.
-            subst (λ (o : Option ReadError). IfSome o
-            (SaysWhy (AcceptsWithResets limit) limit (left_of s) (failed_of other))) (sym also_same)
-            (told.refused (sym same ∙ h));
-        unread = λ h. told.unread (λ is. h (same ∙ is));
+        verdict = subst SaidOfFile (sym same) told.verdict;
+        unmade = subst Unmade (sym same) told.unmade;
+        unread = subst Unread (sym same) told.unread;
+        refused = λ h. subst SaidOfWitness (sym also_same) (told.refused (sym same ∙ h));
         whole = λ h k. told.whole (sym same ∙ h) (sym also_same ∙ k);
         answer = λ h k.
             let f = told.answer (sym same ∙ h) (sym also_same ∙ k) in
@@ -82,5 +145,5 @@ module _ {R S : Type 0} (left : R → Option (List ℕ)) (failed : R → Bool)
               };
               taken = f.taken;
             };
-        own = own;
+        errors = own;
       }

@@ -1,13 +1,15 @@
--- What answers about the conditions of a claim tell of the two files.
-use Rattle.aig_simulated.proofs.Words.{◌≡◌, ℕ, ◌≤◌, Bool, List, None, Option, Result, Ok, Err, refl, sym, ap, subst, ◌∙◌, IfErr, fun_ext, IsCircuitQuery, query_with, Circuit, IsCircuit, lists_circuit, Accepts, File, Fits, circuit_of, AreListsOf, node_in, AreListsWithResets, circuit_with_resets, Accepted, verdict_by, Shares, model_leaf, question_of, IsCertificate, Sharing, Condition, Reset, Transition, Property, Base, Step, Claim, SimulationError, ChecksClaim, HoldsIn, IsAsked, Certifies, Claims, IsClaim, IsNoQuestion, IsObligation, IsOfClaim, IsOfObligation, IsOwn, IsQuestionOf, Obliges, Proofs, first_verdict, proof_for, question_in, refusal_of, refusal_by}
+-- What answers about the conditions of a claim tell of the file and the witness circuit.
+use Rattle.aig_simulated.proofs.Words.{◌≡◌, ℕ, ◌≤◌, ◌^◌, Bool, List, [], ◌∷◌, None, Option, Result, Ok, Err, refl, sym, ap, subst, ◌∙◌, IfErr, OnOk, fun_ext, IsCircuitQuery, query_with, Circuit, IsCircuit, lists_circuit, Accepts, File, Shares, model_leaf, question_of, IsCertificate, Sharing, Condition, Reset, Transition, Property, Base, Step, Claim, SimulationError, ChecksClaim, HoldsIn, IsAsked, Certifies, ChecksModel, Claims, ClaimsNothing, IsClaim, IsOfClaim, IsOwn, IsQuestionOf, MakesClaim, Proofs, file_error, part_of, proof_for, question_in, refusal_of}
 use Rattle.aig_answers.specs.declared.windows.WindowClauses.{WindowClauses}
-use Rattle.aig_runs.specs.Queries.{IsSafeTo}
-use Rattle.aig_runs.specs.Safety.{IsCircuitSafeAt, IsSafeAt}
+use Rattle.aig_runs.specs.Safety.{IsCircuitSafeAt}
 use Rattle.aig_runs.specs.Unrolled.{UnrolledCircuit}
-use Rattle.aig_simulation.specs.declared.error.QuestionError.{QuestionError}
-use Rattle.aig_simulated.specs.declared.error.ConditionError.TheVariants as conditions
+use Rattle.aig_subjects.specs.Reads.{AreAccepted}
+use Rattle.aig_subjects.specs.Shown.{ShowsAlways}
+use Rattle.aig_subjects.specs.Subjects.{IsSubject}
+use Rattle.aig_subjects.specs.declared.subject.FileSubject.{FileSubject}
+use Rattle.aig_subjects.specs.declared.subject.Subject.{Subject}
+use Rattle.aig_subjects.specs.declared.subject.Subject.TheVariants.{File as of_file}
 use Rattle.aig_simulated.specs.declared.error.SimulationError.TheVariants as errors
-use Rattle.aig_simulated.specs.declared.obligation.Obligation.{Obligation}
 
 -- ---- the conditions
 
@@ -37,102 +39,89 @@ certificate claim is holds = record {
   step = holds Step;
 }
 
--- ---- the files
+-- ---- the models
 
--- the laws by which a certificate shows that a machine is safe
+-- the laws by which a certificate shows that what is asked about a file is so
 pub record Known : Type 0 where
   pub certified : (shared : Sharing) (model witness : Circuit) → IsCircuit witness
       → IsCertificate shared model witness → (k : ℕ) → IsCircuitSafeAt model k
-  pub machines_back : (f : File) (limit k : ℕ) → Fits f limit → IsCircuitSafeAt (circuit_of f) k
-      → IsSafeAt f k
-  pub steps : (f : File) (n : ℕ) → ((k : ℕ) → k ≤ n → IsSafeAt f k) → IsSafeTo f n
+  pub always : (subject : Subject) (files : List File) (limit : ℕ) (m : Circuit)
+      → limit ≤ 2 ^ 31 → AreAccepted limit files → IsSubject subject files m
+      → ((k : ℕ) → IsCircuitSafeAt m k) → ShowsAlways subject files
 
--- the question of a claim that was read of two files is theirs
-pub question_of_files : (condition : Condition) (f g : File) (claim : Claim)
-    → AreListsOf f claim.model → AreListsWithResets g claim.witness
-    → Shares (node_in f) (circuit_of f) (circuit_with_resets g) claim.shared.items
-    → IsQuestionOf condition f g (question_in condition claim)
-question_of_files condition f g claim model witness shares = (
-  claim.shared.items,
-  shares,
-  ap (λ (m : Circuit). question_of condition (model_leaf claim.shared.items) m
-      (lists_circuit claim.witness)) model
-      ∙ ap (λ (w : Circuit). question_of condition (model_leaf claim.shared.items) (circuit_of f) w)
-      witness,
-)
+module _ (node : ℕ → Option ℕ) (m w : Circuit) (claim : Claim) (made : MakesClaim node m w (Ok claim))
+  where
+    -- the question of a claim is that of its circuits
+    pub question_of_model : (condition : Condition)
+        → IsQuestionOf condition node m w (question_in condition claim)
+    question_of_model condition = (
+      claim.shared.items,
+      made.3,
+      ap (λ (c : Circuit). question_of condition (model_leaf claim.shared.items) c
+          (lists_circuit claim.witness)) made.1
+          ∙ ap (λ (c : Circuit). question_of condition (model_leaf claim.shared.items) m c) made.2,
+    )
 
 -- of two lists of shared leaves that say the same there is one question
-pub one_question : (condition : Condition) (f g : File) (q other : Circuit)
+pub one_question : (condition : Condition) (node : ℕ → Option ℕ) (m w q other : Circuit)
     → ((node : ℕ → Option ℕ) (model witness : Circuit) (shared more : Sharing)
     → Shares node model witness shared → Shares node model witness more → (n : ℕ)
     → model_leaf shared n ≡ model_leaf more n)
-    → IsQuestionOf condition f g q → IsQuestionOf condition f g other → q ≡ other
-one_question condition f g q other alike is also =
+    → IsQuestionOf condition node m w q → IsQuestionOf condition node m w other → q ≡ other
+one_question condition node m w q other alike is also =
     is.2
-    ∙ ap (λ leaf. question_of condition leaf (circuit_of f) (circuit_with_resets g))
-    (fun_ext (alike (node_in f) (circuit_of f) (circuit_with_resets g) is.0 also.0 is.1 also.1))
+    ∙ ap (λ leaf. question_of condition leaf m w)
+    (fun_ext (alike node m w is.0 also.0 is.1 also.1))
     ∙ sym also.2
 
-module _ {P : Type 0} (known : Known) (limit : ℕ) (optimize : Bool) (left : P → Option (List ℕ))
-    (proofs : Proofs P) (f g : File) (bytes : List ℕ) (claim : Claim)
-    (accepts : Accepts bytes limit f) (is : IsClaim claim) where
+module _ {P : Type 0} (known : Known) (limit : ℕ) (low : limit ≤ 2 ^ 31) (optimize : Bool)
+    (left : P → Option (List ℕ)) (proofs : Proofs P) (own : FileSubject) (f g : File)
+    (bytes : List ℕ) (claim : Claim) (accepts : Accepts bytes limit f) (is : IsClaim claim)
+    (claims : Claims own f g (Ok claim)) where
   abbrev texts : Condition → Option (List ℕ)
   texts condition = left (proof_for proofs condition)
 
-  safe : AreListsOf f claim.model → ((condition : Condition) → HoldsIn claim condition) → (n : ℕ)
-      → IsSafeTo f n
-  safe lists holds n =
-      known.steps f n
-      (λ k low. known.machines_back f limit k accepts.1
-      (subst (λ (m : Circuit). IsCircuitSafeAt m k) lists
+  shown : (made : Result Unit SimulationError) → ChecksClaim left limit optimize claim proofs made
+      → OnOk made (ShowsAlways (of_file own) (f ∷ []))
+  shown (Ok done) told =
+      known.always (of_file own) (f ∷ []) limit claims.0 low ((bytes, accepts), tt) claims.1
+      (λ k. subst (λ (m : Circuit). IsCircuitSafeAt m k) claims.2.1
       (known.certified claim.shared.items (lists_circuit claim.model) (lists_circuit claim.witness)
-      is.witness (certificate claim is holds) k)))
+      is.witness (certificate claim is told.0) k))
+  shown (Err e) told = tt
 
-  -- the machine is safe at every step, or it is said why that isn't shown
-  pub certifies : (made : Result Unit SimulationError) → Claims f g (Ok claim)
-      → ChecksClaim left limit optimize claim proofs made → Certifies limit optimize texts f g made
-  certifies (Ok done) claims told = (
-    claims.0,
-    safe claims.1 told.0,
+  checks : (node : ℕ → Option ℕ) (m w : Circuit) → MakesClaim node m w (Ok claim)
+      → (made : Result Unit SimulationError) → ChecksClaim left limit optimize claim proofs made
+      → ChecksModel limit optimize texts node m w made
+  checks node m w made (Ok done) told = (
+    made.0,
     λ condition. (
       question_in condition claim,
-      question_of_files condition f g claim claims.1 claims.2 claims.3,
+      question_of_model node m w claim made condition,
       told.1 condition,
     ),
   )
-  certifies (Err (errors.Condition failing e)) claims told = (
-    claims.0,
+  checks node m w made (Err (errors.Condition failing e)) told = (
+    made.0,
     λ condition before. (
       question_in condition claim,
-      question_of_files condition f g claim claims.1 claims.2 claims.3,
+      question_of_model node m w claim made condition,
       told.0 condition before,
     ),
-    (
-      question_in failing claim,
-      question_of_files failing f g claim claims.1 claims.2 claims.3,
-      told.1,
-    ),
+    (question_in failing claim, question_of_model node m w claim made failing, told.1),
   )
-  certifies (Err (errors.Read e)) claims told = absurd told
-  certifies (Err (errors.Witness e)) claims told = absurd told
-  certifies (Err errors.NoBads) claims told = absurd told
-  certifies (Err (errors.Sharing e)) claims told = absurd told
-  certifies (Err errors.Circular) claims told = absurd told
+  checks node m w made (Err (errors.File e)) told = absurd told
+  checks node m w made (Err (errors.Witness e)) told = absurd told
+  checks node m w made (Err errors.NoBads) told = absurd told
+  checks node m w made (Err (errors.Sharing e)) told = absurd told
+  checks node m w made (Err errors.Circular) told = absurd told
 
--- the clauses are those of their question, or it is said why there are none
-module _ (limit : ℕ) (optimize : Bool) (condition : Condition) (f g : File) (claim : Claim)
-    (claims : Claims f g (Ok claim)) where
-  asked : IsQuestionOf condition f g (question_in condition claim)
-  asked = question_of_files condition f g claim claims.1 claims.2 claims.3
-
-  pub obliges : (o : Obligation) → IsObligation limit optimize (question_in condition claim) o
-      → Obliges limit optimize condition f g (Ok o)
-  obliges o is = (claims.0, (question_in condition claim, asked, is))
-
-  pub unasked : (e : QuestionError) → IsNoQuestion limit (question_in condition claim) e
-      → Obliges limit optimize condition f g
-      (Err (errors.Condition condition (conditions.Question e)))
-  unasked e why = (claims.0, (question_in condition claim, asked, why))
+  -- what is asked about is so at every step, or it is said why that isn't shown
+  pub certifies : (made : Result Unit SimulationError)
+      → ChecksClaim left limit optimize claim proofs made
+      → Certifies limit optimize texts own f g made
+  certifies made told =
+      (shown made told, (claims.0, claims.1, checks _ claims.0 _ claims.2 made told))
 
 -- ---- errors
 
@@ -140,51 +129,34 @@ module _ (limit : ℕ) (optimize : Bool) (condition : Condition) (f g : File) (c
 pub check_said : {P : Type 0} (limit : ℕ) (optimize : Bool) (left : P → Option (List ℕ))
     (proofs : Proofs P) (claim : Claim) (made : Result Unit SimulationError)
     → ChecksClaim left limit optimize claim proofs made
-    → (verdict_by first_verdict made ≡ Accepted) × (refusal_by refusal_of made ≡ None)
-    × IfErr made IsOwn
+    → (part_of file_error made ≡ None) × (part_of refusal_of made ≡ None) × IfErr made IsOwn
 check_said limit optimize left proofs claim (Ok done) told = (refl, refl, tt)
 check_said limit optimize left proofs claim (Err (errors.Condition failing e)) told =
     (refl, refl, tt)
-check_said limit optimize left proofs claim (Err (errors.Read e)) told = absurd told
+check_said limit optimize left proofs claim (Err (errors.File e)) told = absurd told
 check_said limit optimize left proofs claim (Err (errors.Witness e)) told = absurd told
 check_said limit optimize left proofs claim (Err errors.NoBads) told = absurd told
 check_said limit optimize left proofs claim (Err (errors.Sharing e)) told = absurd told
 check_said limit optimize left proofs claim (Err errors.Circular) told = absurd told
 
--- an error of a claim is one of the check, and of an obligation
+-- an error of a claim is one of the check
 pub own_of_claim : (e : SimulationError) → IsOfClaim e → IsOwn e
-own_of_claim (errors.Read e) own = own
+own_of_claim (errors.File e) own = own
 own_of_claim (errors.Witness e) own = own
 own_of_claim errors.NoBads own = tt
 own_of_claim (errors.Sharing e) own = tt
 own_of_claim errors.Circular own = tt
 own_of_claim (errors.Condition failing e) own = absurd own
 
-pub obligation_of_claim : (condition : Condition) (e : SimulationError) → IsOfClaim e
-    → IsOfObligation condition e
-obligation_of_claim condition (errors.Read e) own = own
-obligation_of_claim condition (errors.Witness e) own = own
-obligation_of_claim condition errors.NoBads own = tt
-obligation_of_claim condition (errors.Sharing e) own = tt
-obligation_of_claim condition errors.Circular own = tt
-obligation_of_claim condition (errors.Condition failing e) own = absurd own
+-- why there is no claim is why there is no answer
+checks_none : (limit : ℕ) (optimize : Bool) (given : Condition → Option (List ℕ))
+    (node : ℕ → Option ℕ) (m w : Circuit) (e : SimulationError) → ClaimsNothing node m w e
+    → ChecksModel limit optimize given node m w (Err e)
+checks_none limit optimize given node m w (errors.Condition failing e) none = absurd none
+checks_none limit optimize given node m w e none = none
 
--- why there is no claim is why there is no answer, and why there are no clauses
-pub not_certified : (limit : ℕ) (optimize : Bool) (texts : Condition → Option (List ℕ))
-    (f g : File) (e : SimulationError) → Claims f g (Err e)
-    → Certifies limit optimize texts f g (Err e)
-not_certified limit optimize texts f g (errors.Read e) none = absurd none
-not_certified limit optimize texts f g (errors.Witness e) none = absurd none
-not_certified limit optimize texts f g errors.NoBads none = none
-not_certified limit optimize texts f g (errors.Sharing e) none = none
-not_certified limit optimize texts f g errors.Circular none = none
-not_certified limit optimize texts f g (errors.Condition failing e) none = absurd none
-
-pub not_obliged : (limit : ℕ) (optimize : Bool) (condition : Condition) (f g : File)
-    (e : SimulationError) → Claims f g (Err e) → Obliges limit optimize condition f g (Err e)
-not_obliged limit optimize condition f g (errors.Read e) none = absurd none
-not_obliged limit optimize condition f g (errors.Witness e) none = absurd none
-not_obliged limit optimize condition f g errors.NoBads none = none
-not_obliged limit optimize condition f g (errors.Sharing e) none = none
-not_obliged limit optimize condition f g errors.Circular none = none
-not_obliged limit optimize condition f g (errors.Condition failing e) none = absurd none
+pub not_certified : (limit : ℕ) (optimize : Bool) (given : Condition → Option (List ℕ))
+    (own : FileSubject) (f g : File) (e : SimulationError) → Claims own f g (Err e)
+    → Certifies limit optimize given own f g (Err e)
+not_certified limit optimize given own f g e none =
+    (tt, (none.0, none.1, checks_none limit optimize given _ none.0 _ e none.2))

@@ -66,7 +66,7 @@ module _ {P : Type 0} (left : P → Option (List ℕ)) (limit : ℕ) (optimize :
         (subst (λ (d : Condition). turn_of other < turn_of d) told.0 low),
     subst (λ (d : Condition). TellsTurn d (Err x)) (sym told.0) told.1,
   )
-  stops condition (errors.Read x) before told = absurd told
+  stops condition (errors.File x) before told = absurd told
   stops condition (errors.Witness x) before told = absurd told
   stops condition errors.NoBads before told = absurd told
   stops condition (errors.Sharing x) before told = absurd told
@@ -98,7 +98,7 @@ module _ (limit : ℕ) (optimize : Bool) (text : Option (List ℕ)) (claim : Cla
       let turns : turn_of failing ≡ turn_of condition = ap turn_of told.0 in
       let low : turn_of failing < turn_of other = leaves in
       omega arith
-  was_read other (Err (errors.Read x)) told before leaves = told
+  was_read other (Err (errors.File x)) told before leaves = told
   was_read other (Err (errors.Witness x)) told before leaves = told
   was_read other (Err errors.NoBads) told before leaves = told
   was_read other (Err (errors.Sharing x)) told before leaves = told
@@ -114,7 +114,7 @@ module _ (limit : ℕ) (optimize : Bool) (text : Option (List ℕ)) (claim : Cla
       same : IsErrOf {T = Unit {0}} (Err (errors.Condition failing y)) (errors.Condition other x)
           → failing ≡ other
       same q = cc
-  named other x (Err (errors.Read y)) told is = absurd told
+  named other x (Err (errors.File y)) told is = absurd told
   named other x (Err (errors.Witness y)) told is = absurd told
   named other x (Err errors.NoBads) told is = absurd told
   named other x (Err (errors.Sharing y)) told is = absurd told

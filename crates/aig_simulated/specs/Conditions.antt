@@ -1,14 +1,14 @@
 -- Serves private clauses alone.
 -- What is done for each condition, and for all.
-use Rattle.std.specs.Prelude.{◌≡◌, ◌≢◌, ℕ, ◌<◌, ◌≤◌, Bool, IsErrOf, IsTrue, List, [], OnOk, length, Option, Result, Ok, Err}
-use Rattle.aig_circuit.specs.Circuit.{Circuit}
+use Rattle.std.specs.Prelude.{◌≡◌, ℕ, ◌<◌, ◌≤◌, Bool, IsErrOf, IsTrue, List, OnOk, length, Option, Result, Ok, Err}
 use Rattle.aig_circuit.specs.View.{lists_circuit}
+use Rattle.aig_edits.specs.declared.edit_error.EditError.{EditError}
+use Rattle.aig_format.specs.File.{File}
+use Rattle.aig_reader.specs.Reading.{node_told}
+use Rattle.aig_reader.specs.declared.variable_nodes.NumberedLists.{NumberedLists}
 use Rattle.aig_refutation.specs.declared.error.RefutationError.TheVariants as refutation
 use Rattle.aig_runs.specs.Unrolled.{UnrolledCircuit, Unrolls}
-use Rattle.aig_simulation.specs.Circular.{IsCircular}
-use Rattle.aig_simulation.specs.Named.{IsFault, Shares}
 use Rattle.aig_simulation.specs.Questions.{AsksIf, Holds}
-use Rattle.aig_simulation.specs.Simulation.{Sharing}
 use Rattle.aig_simulation.specs.declared.condition.Condition.{Condition}
 use Rattle.aig_simulation.specs.declared.error.QuestionError.{QuestionError}
 use Rattle.aig_simulated.specs.declared.claim.Claim.{Claim}
@@ -16,21 +16,17 @@ use Rattle.aig_simulated.specs.declared.error.ConditionError.{ConditionError}
 use Rattle.aig_simulated.specs.declared.error.ConditionError.TheVariants as conditions
 use Rattle.aig_simulated.specs.declared.error.SimulationError.{SimulationError}
 use Rattle.aig_simulated.specs.declared.error.SimulationError.TheVariants as errors
-use Rattle.aig_simulated.specs.Simulated.{IsNoQuestion, LeavesProof, Proofs, TellsOfQuestion, proof_for, question_in, turn_of}
+use Rattle.aig_simulated.specs.Simulated.{IsNoQuestion, LeavesProof, Proofs, TellsOfQuestion, node_of, proof_for, question_in, turn_of}
+use Rattle.aig_subjects.specs.Subjects.{IsFileSubject, IsUnmadeFile}
+use Rattle.aig_subjects.specs.declared.subject.FileSubject.{FileSubject}
 
--- the claim is of these circuits, or it is said why there is none; `node` says which node of the
--- model a variable of its file is
-abbrev pub MakesClaim : (ℕ → Option ℕ) → Circuit → Circuit → Result Claim SimulationError → Type 0
-MakesClaim node m w (Ok claim) =
-    (m.properties.bads ≢ []) × (lists_circuit claim.model ≡ m)
-    × (lists_circuit claim.witness ≡ w) × Shares node m w claim.shared.items
-    × (¬ IsCircular claim.shared.items w)
-MakesClaim node m w (Err errors.NoBads) = m.properties.bads ≡ []
-MakesClaim node m w (Err (errors.Sharing e)) =
-    (m.properties.bads ≢ []) × IsFault node m w e
-MakesClaim node m w (Err errors.Circular) =
-    (m.properties.bads ≢ []) × ((shared : Sharing) × Shares node m w shared × IsCircular shared w)
-MakesClaim node m w (Err e) = ⊥
+-- the lists are those of the model, and of each variable the node is told by which a name calls it,
+-- or it is said why there is none
+abbrev pub GivesModel : FileSubject → File → Result NumberedLists EditError → Type 0
+GivesModel own f (Ok read) =
+    IsFileSubject own f (lists_circuit read.lists)
+    × ((v : ℕ) → node_told read.variables v ≡ node_of own f (lists_circuit read.lists) v)
+GivesModel own f (Err e) = IsUnmadeFile own f e
 
 -- the condition holds of the claim
 abbrev pub HoldsIn : Claim → Condition → Type 0

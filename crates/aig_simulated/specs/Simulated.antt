@@ -1,19 +1,17 @@
 -- Part of what is promised.
--- What an answer says of a file and of a witness circuit that simulates it, and what its errors
--- say. (Certificates of the hardware model checking competition.)
-use Rattle.std.specs.Prelude.{◌≡◌, ◌≢◌, ℕ, ◌<◌, ◌≤◌, Bool, List, [], length, Option, Some, None, Result, Ok, Err}
+-- What an answer says of a circuit of a file and of a witness circuit that simulates it, and what
+-- its errors say. (Certificates of the hardware model checking competition.)
+use Rattle.std.specs.Prelude.{◌≡◌, ◌≢◌, ℕ, ◌-◌, ◌<◌, ◌≤◌, nat_le, if◌then◌else◌, Bool, List, [], length, OnOk, Option, Some, None, Result, Ok, Err}
 use Rattle.aig_answers.specs.Answers.{AskWith, IsCircuitQuery, TellsOfCircuit, query_with}
-use Rattle.aig_answers.specs.declared.error.AnswerError.TheVariants as answers
 use Rattle.aig_circuit.specs.Circuit.{Circuit, IsCircuit}
 use Rattle.aig_circuit.specs.View.{lists_circuit}
-use Rattle.aig_format.specs.Circuit.{circuit_of}
+use Rattle.aig_edits.specs.Edits.{IsEditOwn}
+use Rattle.aig_edits.specs.declared.edit_error.EditError.{EditError}
 use Rattle.aig_format.specs.File.{File}
-use Rattle.aig_reader.specs.Reading.{AreListsOf, node_in}
-use Rattle.aig_reader.specs.Resets.{AreListsWithResets, circuit_with_resets}
-use Rattle.aig_reader.specs.Verdicts.{Accepted, Verdict, verdict_of}
+use Rattle.aig_reader.specs.Reading.{node_in}
+use Rattle.aig_reader.specs.Resets.{circuit_with_resets}
 use Rattle.aig_reader.specs.declared.error.ReadError.{ReadError}
 use Rattle.aig_reader.specs.declared.error.ReadError.TheVariants as read
-use Rattle.aig_runs.specs.Queries.{IsSafeTo}
 use Rattle.aig_simulation.specs.Circular.{IsCircular}
 use Rattle.aig_simulation.specs.Named.{IsFault, Shares}
 use Rattle.aig_simulation.specs.Exact.{model_leaf, question_of}
@@ -23,6 +21,10 @@ use Rattle.aig_simulation.specs.declared.condition.Condition.{Condition}
 use Rattle.aig_simulation.specs.declared.condition.Condition.TheVariants.{Reset, Transition, Property, Base, Step}
 use Rattle.aig_simulation.specs.declared.error.QuestionError.{QuestionError}
 use Rattle.aig_simulation.specs.declared.error.QuestionError.TheVariants as questions
+use Rattle.aig_subjects.specs.Shown.{FileShowsAlways}
+use Rattle.aig_subjects.specs.Subjects.{IsFileSubject}
+use Rattle.aig_subjects.specs.declared.subject.FileSubject.{FileSubject}
+use Rattle.aig_subjects.specs.declared.subject.FileSubject.TheVariants.{Own}
 use Rattle.aig_simulated.specs.declared.claim.Claim.{Claim}
 use Rattle.aig_simulated.specs.declared.error.ConditionError.{ConditionError}
 use Rattle.aig_simulated.specs.declared.error.ConditionError.TheVariants as conditions
@@ -32,10 +34,10 @@ use Rattle.aig_simulated.specs.declared.obligation.Obligation.{Obligation}
 
 -- ---- errors
 
--- what an error says of the file's bytes
-abbrev pub first_verdict : SimulationError → Verdict
-first_verdict (errors.Read e) = verdict_of e
-first_verdict e = Accepted
+-- why the file is refused, or nothing is made of it, if so
+abbrev pub file_error : SimulationError → Option EditError
+file_error (errors.File e) = Some e
+file_error e = None
 
 -- why the witness circuit's bytes are refused, if they are
 abbrev pub refusal_of : SimulationError → Option ReadError
@@ -44,7 +46,7 @@ refusal_of e = None
 
 -- no path is opened
 abbrev pub IsOwn : SimulationError → Type 0
-IsOwn (errors.Read e) = e ≢ read.Open
+IsOwn (errors.File e) = IsEditOwn e
 IsOwn (errors.Witness e) = e ≢ read.Open
 IsOwn e = Unit {0}
 
@@ -125,11 +127,24 @@ question_in condition claim =
     question_of condition (model_leaf claim.shared.items) (lists_circuit claim.model)
     (lists_circuit claim.witness)
 
--- the question for a condition of the files, of which there is one (`condition_questions_are_one`)
-abbrev pub IsQuestionOf : Condition → File → File → Circuit → Type 0
-IsQuestionOf condition f g q =
-    (shared : Sharing) × Shares (node_in f) (circuit_of f) (circuit_with_resets g) shared
-    × (q ≡ question_of condition (model_leaf shared) (circuit_of f) (circuit_with_resets g))
+-- which node of the model m a variable is by which a name calls it: of the file's own circuit that
+-- of the file's variable, and else the one of this number, up to the last
+abbrev pub node_of : FileSubject → File → Circuit → ℕ → Option ℕ
+node_of Own f m = node_in f
+node_of own f m = λ v. if nat_le v (length m.nodes - 1) then Some v else None
+
+-- this holds of the model of a file, of the node of each variable, and of the witness circuit
+abbrev pub OfModel : FileSubject → File → File
+    → ((ℕ → Option ℕ) → Circuit → Circuit → Type 0) → Type 0
+OfModel own f g Holds =
+    (m : Circuit) × IsFileSubject own f m × Holds (node_of own f m) m (circuit_with_resets g)
+
+-- the question for a condition of a model m and a witness circuit w, of which there is one
+-- (`condition_questions_are_one`)
+abbrev pub IsQuestionOf : Condition → (ℕ → Option ℕ) → Circuit → Circuit → Circuit → Type 0
+IsQuestionOf condition node m w q =
+    (shared : Sharing) × Shares node m w shared
+    × (q ≡ question_of condition (model_leaf shared) m w)
 
 -- why there are no clauses of the question q
 abbrev pub IsNoQuestion : ℕ → Circuit → QuestionError → Type 0
@@ -144,57 +159,65 @@ TellsOfQuestion limit optimize text q (Ok done) =
     (length q.nodes ≤ limit) × TellsOfCircuit 0 optimize text q (Ok tt)
 TellsOfQuestion limit optimize text q (Err (conditions.Question e)) = IsNoQuestion limit q e
 TellsOfQuestion limit optimize text q (Err (conditions.Refutation e)) =
-    (length q.nodes ≤ limit) × TellsOfCircuit 0 optimize text q (Err (answers.Refutation e))
+    (length q.nodes ≤ limit) × TellsOfCircuit 0 optimize text q (Err e)
 
 -- ---- answers
 
--- the file has a bad literal
-abbrev pub HasBads : File → Type 0
-HasBads f = f.properties.bads ≢ []
+-- the model has a bad edge
+abbrev pub HasBads : Circuit → Type 0
+HasBads m = m.properties.bads ≢ []
 
 -- the resets of the witness circuit's own latches go round in a circle
-abbrev pub GoRound : File → File → Type 0
-GoRound f g =
-    (shared : Sharing) × Shares (node_in f) (circuit_of f) (circuit_with_resets g) shared
-    × IsCircular shared (circuit_with_resets g)
+abbrev pub GoRound : (ℕ → Option ℕ) → Circuit → Circuit → Type 0
+GoRound node m w = (shared : Sharing) × Shares node m w shared × IsCircular shared w
 
--- the lists are those of the files' circuits and of the leaves that these share, and no resets go
--- round in a circle, or it is said why there are none
-abbrev pub Claims : File → File → Result Claim SimulationError → Type 0
-Claims f g (Ok claim) =
-    HasBads f × AreListsOf f claim.model × AreListsWithResets g claim.witness
-    × Shares (node_in f) (circuit_of f) (circuit_with_resets g) claim.shared.items
-    × (¬ IsCircular claim.shared.items (circuit_with_resets g))
-Claims f g (Err errors.NoBads) = f.properties.bads ≡ []
-Claims f g (Err (errors.Sharing e)) =
-    HasBads f × IsFault (node_in f) (circuit_of f) (circuit_with_resets g) e
-Claims f g (Err errors.Circular) = HasBads f × GoRound f g
-Claims f g (Err e) = ⊥
+-- why a model and a witness circuit claim nothing
+abbrev pub ClaimsNothing : (ℕ → Option ℕ) → Circuit → Circuit → SimulationError → Type 0
+ClaimsNothing node m w errors.NoBads = m.properties.bads ≡ []
+ClaimsNothing node m w (errors.Sharing e) = HasBads m × IsFault node m w e
+ClaimsNothing node m w errors.Circular = HasBads m × GoRound node m w
+ClaimsNothing node m w e = ⊥
 
--- what an answer about a condition tells of the files' question
-abbrev pub TellsOfCondition : ℕ → Bool → (Condition → Option (List ℕ)) → File → File → Condition
-    → Result Unit ConditionError → Type 0
-TellsOfCondition limit optimize texts f g condition answer =
-    (q : Circuit) × IsQuestionOf condition f g q
+-- the claim is of these circuits, with the leaves that they share, and no resets go round in a
+-- circle, or it is said why there is none
+abbrev pub MakesClaim : (ℕ → Option ℕ) → Circuit → Circuit → Result Claim SimulationError → Type 0
+MakesClaim node m w (Ok claim) =
+    HasBads m × (lists_circuit claim.model ≡ m) × (lists_circuit claim.witness ≡ w)
+    × Shares node m w claim.shared.items × (¬ IsCircular claim.shared.items w)
+MakesClaim node m w (Err e) = ClaimsNothing node m w e
+
+-- so of the file and the witness circuit
+abbrev pub Claims : FileSubject → File → File → Result Claim SimulationError → Type 0
+Claims own f g result = OfModel own f g (λ node m w. MakesClaim node m w result)
+
+-- what an answer about a condition tells of its question
+abbrev pub TellsOfCondition : ℕ → Bool → (Condition → Option (List ℕ)) → (ℕ → Option ℕ) → Circuit
+    → Circuit → Condition → Result Unit ConditionError → Type 0
+TellsOfCondition limit optimize texts node m w condition answer =
+    (q : Circuit) × IsQuestionOf condition node m w q
     × TellsOfQuestion limit optimize (texts condition) q answer
 
--- The machine of f reaches no bad state at any step, as the witness circuit g shows with proofs of
--- these texts, or it is said why that isn't shown.
-abbrev pub Certifies : ℕ → Bool → (Condition → Option (List ℕ)) → File → File
-    → Result Unit SimulationError → Type 0
-Certifies limit optimize texts f g (Ok done) =
-    HasBads f × ((n : ℕ) → IsSafeTo f n)
-    × ((condition : Condition) → TellsOfCondition limit optimize texts f g condition (Ok tt))
-Certifies limit optimize texts f g (Err errors.NoBads) = f.properties.bads ≡ []
-Certifies limit optimize texts f g (Err (errors.Sharing e)) =
-    HasBads f × IsFault (node_in f) (circuit_of f) (circuit_with_resets g) e
-Certifies limit optimize texts f g (Err errors.Circular) = HasBads f × GoRound f g
-Certifies limit optimize texts f g (Err (errors.Condition failing e)) =
-    HasBads f
+-- proofs of these texts are taken for each condition of a model m and a witness circuit w, or it is
+-- said why not
+abbrev pub ChecksModel : ℕ → Bool → (Condition → Option (List ℕ)) → (ℕ → Option ℕ) → Circuit
+    → Circuit → Result Unit SimulationError → Type 0
+ChecksModel limit optimize texts node m w (Ok done) =
+    HasBads m
+    × ((condition : Condition) → TellsOfCondition limit optimize texts node m w condition (Ok tt))
+ChecksModel limit optimize texts node m w (Err (errors.Condition failing e)) =
+    HasBads m
     × ((condition : Condition) → turn_of condition < turn_of failing
-    → TellsOfCondition limit optimize texts f g condition (Ok tt))
-    × TellsOfCondition limit optimize texts f g failing (Err e)
-Certifies limit optimize texts f g (Err e) = ⊥
+    → TellsOfCondition limit optimize texts node m w condition (Ok tt))
+    × TellsOfCondition limit optimize texts node m w failing (Err e)
+ChecksModel limit optimize texts node m w (Err e) = ClaimsNothing node m w e
+
+-- What is asked about the file is so at every step, as the witness circuit shows with proofs of
+-- these texts, or it is said why that isn't shown.
+abbrev pub Certifies : ℕ → Bool → (Condition → Option (List ℕ)) → FileSubject → File → File
+    → Result Unit SimulationError → Type 0
+Certifies limit optimize texts own f g result =
+    OnOk result (FileShowsAlways own f)
+    × OfModel own f g (λ node m w. ChecksModel limit optimize texts node m w result)
 
 -- ---- clauses
 
@@ -210,16 +233,3 @@ pub record IsObligation (limit : ℕ) (optimize : Bool) (q : Circuit) (o : Oblig
 abbrev pub MakesObligation : ℕ → Bool → Circuit → Result Obligation QuestionError → Type 0
 MakesObligation limit optimize q (Ok o) = IsObligation limit optimize q o
 MakesObligation limit optimize q (Err e) = IsNoQuestion limit q e
-
--- the clauses are these, or it is said why there are none
-abbrev pub Obliges : ℕ → Bool → Condition → File → File → Result Obligation SimulationError
-    → Type 0
-Obliges limit optimize condition f g (Ok o) =
-    HasBads f × ((q : Circuit) × IsQuestionOf condition f g q × IsObligation limit optimize q o)
-Obliges limit optimize condition f g (Err errors.NoBads) = f.properties.bads ≡ []
-Obliges limit optimize condition f g (Err (errors.Sharing e)) =
-    HasBads f × IsFault (node_in f) (circuit_of f) (circuit_with_resets g) e
-Obliges limit optimize condition f g (Err errors.Circular) = HasBads f × GoRound f g
-Obliges limit optimize condition f g (Err (errors.Condition asked (conditions.Question e))) =
-    HasBads f × ((q : Circuit) × IsQuestionOf condition f g q × IsNoQuestion limit q e)
-Obliges limit optimize condition f g (Err e) = ⊥

@@ -1,9 +1,8 @@
-//! Whether a witness circuit shows that a file's machine is safe.
+//! Whether a witness circuit shows that a circuit of a file is safe.
 
 ghost use Rattle.std.specs.Prelude.{◌≡◌, ◌^◌, ◌≤◌, IsErrOf, IsTrue, OnOk};
-ghost use Rattle.aig_circuit.specs.View.{lists_circuit};
 ghost use Rattle.aig_simulated.specs.Conditions.{ChecksClaim, ChecksCondition, HoldsIn, IsUnread};
-ghost use Rattle.aig_simulated.specs.Simulated.{Certifies, IsClaim, IsOwn, LeavesProof, TellsOfQuestion, first_verdict, proof_for, proofs_of, question_in, refusal_of};
+ghost use Rattle.aig_simulated.specs.Simulated.{Certifies, IsClaim, IsOwn, LeavesProof, TellsOfQuestion, file_error, proof_for, proofs_of, question_in, refusal_of};
 ghost use Rattle.aig_simulated.specs.Witnesses.{ReadsWitness};
 ghost use Rattle.aig_simulated.specs.declared.error.ConditionError.TheVariants as conditions;
 ghost use Rattle.aig_simulated.specs.declared.error.SimulationError.TheVariants as errors;
@@ -15,12 +14,11 @@ use crate::obligation::ask;
 use aig_answers::{circuit_clauses_are_one, unrolled_query};
 use aig_base::Source;
 use aig_refutation::{RefutationError, check_refutation};
-use aig_runs::{
-    refuted_circuit_queries_have_no_witness, safe_circuits_are_safe_machines, safe_steps_are_safe,
-};
+use aig_runs::refuted_circuit_queries_have_no_witness;
 use aig_simulation::{
     Condition, certified_models_are_safe, conditions_hold_where_questions_are_safe,
 };
+use aig_subjects::{FileSubject, safe_subjects_show};
 use std::alloc::Global;
 
 /// Checks a proof for the question of a condition.
@@ -113,23 +111,24 @@ fn check_claim<P: Source>(
     check_condition(alloc, claim, limit, optimize, Condition::Step, step)
 }
 
-/// Reads two files in the AIGER format, a file and a witness circuit, and checks that the second one is a certificate of the first by
-/// simulation, with a proof for each condition: then no run of the first one's machine from an initial state, on which every
-/// constraint holds, reaches a bad state at any step. Requires `1 <= limit <= 2^31`.
+/// Reads two files in the AIGER format, a file and a witness circuit, and checks that the second one is a certificate of the circuit of the
+/// first that is asked about by simulation, with a proof for each condition: then no run of that circuit from an initial state, on which
+/// every constraint holds, reaches a bad state at any step. Requires `1 <= limit <= 2^31`.
 ///
 /// The witness circuit is one of the hardware model checking competition's certificates, whose resets may be functions that don't go
 /// round in a circle (`aig_simulation::is_circular`). Which of its inputs and latches stand for those of the file its names say, or else
 /// their order (`aig_simulation::shared_leaves`). For each condition (`Condition`) a question is asked (`aig_simulation::question`),
-/// and the proof shows that the clauses of its query for step 0 can't be satisfied: those of `read_obligation` with the same
+/// and the proof shows that the clauses of its query for step 0 can't be satisfied: those of `obligation_of` with the same
 /// setting. The proofs are read in order, each once, and none after one that is refused.
 ///
 /// # Errors
 ///
-/// - `Read`, `Witness`, `NoBads`, `Sharing`, `Circular`: as `read_simulation`. No proof is read.
+/// - `File`, `Witness`, `NoBads`, `Sharing`, `Circular`: as `read_simulation`. No proof is read.
 /// - `Condition`: the question for the condition has more nodes than the limit, or memory ran out, or the proof for it is refused. The
 ///   proofs for later ones aren't read.
 pub fn check_simulated<R: Source, S: Source, P: Source>(
     alloc: Global,
+    own: FileSubject,
     file: &mut R,
     witness: &mut S,
     limit: usize,
@@ -142,12 +141,12 @@ pub fn check_simulated<R: Source, S: Source, P: Source>(
 ) -> Result<(), SimulationError>
     requires some { 1 ≤ limit }
     requires few { limit ≤ 2 ^ 31 }
-    // The bytes that were read are two files, and the first one's machine reaches no bad state at any step. A refusal says why. Where
-    // a proof is looked at, the answer is what its text shows of the clauses of `read_obligation`.
+    // The bytes that were read are two files, and what is asked about the first is so at every step. A refusal says why. Where a proof is
+    // looked at, the answer is what its text shows of the clauses of `obligation_of`.
     ensures reads { let given = proofs_of reset.old transition.old property.old base.old step.old in
-        ReadsWitness R.left R.failed S.left S.failed limit
-        (Certifies limit optimize (λ condition. P.left (proof_for given condition)))
-        first_verdict refusal_of IsOwn file.old witness.old result file.new witness.new }
+        ReadsWitness R.left R.failed S.left S.failed limit own
+        (Certifies limit optimize (λ condition. P.left (proof_for given condition)) own)
+        file_error refusal_of IsOwn file.old witness.old result file.new witness.new }
     ensures unread { let given = proofs_of
         reset.old transition.old property.old base.old step.old in
         let rest = proofs_of reset.new transition.new property.new base.new step.new in
@@ -160,9 +159,8 @@ pub fn check_simulated<R: Source, S: Source, P: Source>(
         → IsTrue (P.failed (proof_for rest condition)) }
 {
     certified_models_are_safe();
-    safe_circuits_are_safe_machines();
-    safe_steps_are_safe();
-    let claim = read_simulation(alloc, file, witness, limit)?;
+    safe_subjects_show();
+    let claim = read_simulation(alloc, own, file, witness, limit)?;
     check_claim(
         alloc, &claim, limit, optimize, reset, transition, property, base, step,
     )

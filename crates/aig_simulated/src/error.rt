@@ -7,6 +7,7 @@ ghost use Rattle.aig_simulation.specs.declared.error.QuestionError.TheVariants a
 ghost use Rattle.aig_simulation.specs.declared.sharing.error.SharingError.TheVariants as sharing;
 
 use aig_base::MemoryError;
+use aig_edits::EditError;
 use aig_reader::ReadError;
 use aig_refutation::RefutationError;
 use aig_simulation::{Condition, QuestionError, SharingError};
@@ -50,13 +51,13 @@ impl From<RefutationError> for ConditionError {
 /// Why there is no answer about a file and a witness circuit.
 #[derive(Clone, Copy, Debug, PartialEq, Eq, Error)]
 pub enum SimulationError {
-    /// The file is refused. The witness circuit wasn't read.
-    #[error("{0}")]
-    Read(ReadError),
+    /// The file is refused, or has no circuit that is asked about. The witness circuit wasn't read.
+    #[error(transparent)]
+    File(EditError),
     /// The witness circuit is refused.
     #[error("witness circuit: {0}")]
     Witness(ReadError),
-    /// The file has no bad state property, so that nothing is asked.
+    /// The circuit of the file has no bad edge, so that nothing is asked.
     #[error("no bad state property (aigedit bads makes outputs such)")]
     NoBads,
     /// It isn't told which leaves are shared.
@@ -70,12 +71,12 @@ pub enum SimulationError {
     Condition(Condition, ConditionError),
 }
 
-impl From<ReadError> for SimulationError {
-    ghost from_gives = { λ e r. r ≡ errors.Read e };
+impl From<EditError> for SimulationError {
+    ghost from_gives = { λ e r. r ≡ errors.File e };
 
     /// A fault of the file.
-    fn from(error: ReadError) -> SimulationError {
-        SimulationError::Read(error)
+    fn from(error: EditError) -> SimulationError {
+        SimulationError::File(error)
     }
 }
 

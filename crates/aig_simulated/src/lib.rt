@@ -1,4 +1,4 @@
-//! Answers about the machine of an AIGER file that a witness circuit simulates: from the bytes of both, and of a proof for each condition of
+//! Answers about a circuit of an AIGER file that a witness circuit simulates: from the bytes of both, and of a proof for each condition of
 //! a certificate.
 //!
 //! The proofs are of the clauses of the conditions' questions, as `aig_simulation::question` makes them.
@@ -15,4 +15,4 @@ pub use checking::check_simulated;
 pub use claim::{Claim, read_simulation};
 pub use error::{ConditionError, SimulationError};
 pub use laws::condition_questions_are_one;
-pub use obligation::{Obligation, obligation_of, read_obligation};
+pub use obligation::{Obligation, obligation_of};

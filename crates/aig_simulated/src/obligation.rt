@@ -1,15 +1,12 @@
 //! The clauses that the proofs are of.
 
-ghost use Rattle.std.specs.Prelude.{◌^◌, ◌≤◌, IfOk, OnOk};
+ghost use Rattle.std.specs.Prelude.{◌^◌, ◌≤◌, IfOk};
 ghost use Rattle.aig_answers.specs.Answers.{AreWrittenFrom};
 ghost use Rattle.aig_simulated.specs.Conditions.{AsksClaim};
-ghost use Rattle.aig_simulated.specs.Simulated.{IsClaim, IsOfObligation, MakesObligation, Obliges, first_verdict, question_in, refusal_of};
-ghost use Rattle.aig_simulated.specs.Witnesses.{ReadsWitness};
+ghost use Rattle.aig_simulated.specs.Simulated.{IsClaim, MakesObligation, question_in};
 
-use crate::claim::{Claim, read_simulation};
-use crate::error::{ConditionError, SimulationError};
+use crate::claim::Claim;
 use aig_answers::{ClauseParts, query_parts};
-use aig_base::Source;
 use aig_circuit::CircuitView;
 use aig_runs::Unrolled;
 use aig_simulation::{Condition, QuestionError, question};
@@ -53,7 +50,7 @@ pub(crate) fn ask(
     Ok(Unrolled::new(question, 0)?)
 }
 
-/// Makes what the clauses are written from of which the proof for a condition is one. No list of them is made. Requires
+/// Makes what the clauses are written from of which the proof of `check_simulated` for a condition is one. No list of them is made. Requires
 /// `limit <= 2^31`.
 ///
 /// # Errors
@@ -77,34 +74,4 @@ pub fn obligation_of(
     let question = ask(alloc, claim, limit, condition)?;
     let parts = query_parts(alloc, &question, optimize)?;
     Ok(Obligation { question, parts })
-}
-
-/// Reads two files in the AIGER format, a file and a witness circuit, and makes what the clauses are written from of which the proof of
-/// `check_simulated` for the condition is one. Requires `1 <= limit <= 2^31`.
-///
-/// # Errors
-///
-/// - `Read`, `Witness`, `NoBads`, `Sharing`, `Circular`: as `read_simulation`.
-/// - `Condition`: the question for the condition has more nodes than the limit, or memory ran out.
-pub fn read_obligation<R: Source, S: Source>(
-    alloc: Global,
-    file: &mut R,
-    witness: &mut S,
-    limit: usize,
-    optimize: bool,
-    condition: Condition,
-) -> Result<Obligation, SimulationError>
-    requires some { 1 ≤ limit }
-    requires few { limit ≤ 2 ^ 31 }
-    // The bytes that were read are two files, and the clauses are those of their question. A refusal says why there are none.
-    ensures reads { ReadsWitness R.left R.failed S.left S.failed limit
-        (Obliges limit optimize condition) first_verdict refusal_of (IsOfObligation condition)
-        file.old witness.old result file.new witness.new }
-    ensures written { IfOk result (λ o. AreWrittenFrom o.question.unrolled optimize o.parts) }
-{
-    let claim = read_simulation(alloc, file, witness, limit)?;
-    match obligation_of(alloc, &claim, limit, optimize, condition) {
-        Ok(obligation) => Ok(obligation),
-        Err(error) => Err(SimulationError::Condition(condition, ConditionError::Question(error))),
-    }
 }

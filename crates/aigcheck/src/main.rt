@@ -3,8 +3,8 @@
 
 use aig_check_commands::{USAGE, act, advise, explain, notice};
 pub use aig_check_commands::{
-    CheckError, Command, FileCommand, PairCommand, parse, print_checked, print_obligations,
-    print_question, print_run, print_witness, print_witness_to,
+    CheckError, Command, FileCommand, parse, print_checked, print_obligations, print_question,
+    print_run, print_witness, print_witness_to,
 };
 use aig_command_line::{
     FlushedWriter, StandardError, SystemFiles, Watch, WatchedFiles, end, words,

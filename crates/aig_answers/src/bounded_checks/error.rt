@@ -7,7 +7,6 @@ ghost use Rattle.aig_answers.specs.declared.bounded_checks.error.BoundedAnswerEr
 use aig_base::MemoryError;
 use aig_bounded::BoundedError;
 use aig_reader::ReadError;
-use aig_refutation::RefutationError;
 use aig_witness::SolutionError;
 use thiserror::Error;
 
@@ -23,9 +22,6 @@ pub enum BoundedAnswerError {
     /// There is no question, or there are no clauses of it.
     #[error(transparent)]
     Question(BoundedError),
-    /// The proof is refused.
-    #[error(transparent)]
-    Refutation(RefutationError),
     /// The solver's answer gives no witness of a bad state.
     #[error(transparent)]
     Solution(SolutionError),
@@ -44,14 +40,6 @@ impl From<BoundedError> for BoundedAnswerError {
 
     fn from(error: BoundedError) -> BoundedAnswerError {
         BoundedAnswerError::Question(error)
-    }
-}
-
-impl From<RefutationError> for BoundedAnswerError {
-    ghost from_gives = { λ e r. r ≡ errors.Refutation e };
-
-    fn from(error: RefutationError) -> BoundedAnswerError {
-        BoundedAnswerError::Refutation(error)
     }
 }
 

@@ -3,6 +3,7 @@
 use aig_base::FromRead;
 use aig_refutation::RefutationError;
 use aig_simulated::{Condition, ConditionError, SimulationError, check_simulated};
+use aig_subjects::FileSubject;
 use std::alloc::Global;
 
 /// The limit on nodes.
@@ -35,6 +36,7 @@ fn simulated(alloc: Global, witness: &[u8]) -> Option<SimulationError> {
     let mut step = FromRead::new(none);
     check_simulated(
         alloc,
+        FileSubject::Own,
         &mut file,
         &mut witness,
         LIMIT,

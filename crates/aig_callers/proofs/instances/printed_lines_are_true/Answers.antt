@@ -114,7 +114,8 @@ returns-clause-certified c file other text printed =
 
 pub returns-clause-simulated : goal.returns-clause-simulated
 returns-clause-simulated c file other text printed =
-    printed _ _ _ (witness_call both each refl refl refl) (refl, refl)
+    let told = printed _ _ _ (witness_call both each refl refl refl) (refl, refl) in
+    (told.0, told.1, (told.2.0, safe_at_all told.0 told.2.1))
 
 pub returns-clause-equal : goal.returns-clause-equal
 returns-clause-equal c file other text printed =

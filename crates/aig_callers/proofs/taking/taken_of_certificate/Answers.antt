@@ -18,5 +18,5 @@ returns-clause-taken c =
     parts_taken laws c.reads_exactly.ensures.one 16777216 c.args.file.now c.args.certificate.now
     told.0 told.1 told.2 told.3 _ _ _ _ _ _ c.source_of.ensures c.source_of-2.ensures
     c.question_clauses_are_one.ensures c.args.optimize c.in_ok-text.text.items c.args.base.now
-    c.args.step.now told.4 _ _ c.source_of-3.ensures c.source_of-4.ensures _ _
+    c.args.step.now told.4.0 told.4.1 _ _ told.4.3 _ _ c.source_of-3.ensures c.source_of-4.ensures _ _
     c.check_goal-answer.result c.check_goal-answer.ensures.checks

@@ -1,5 +1,5 @@
 use Rattle.aig_calls.proofs.Words.{◌≡◌, [], ◌∷◌, ◌++◌, map, ap, ◌∙◌, arith, rules, take_all, dimacs_number, edge_number}
-use Rattle.aig_calls.proofs.Listing.{map_turn}
+use Rattle.aig_giving.proofs.Listing.{map_turn}
 use Rattle.aig_calls.proofs.mapping.push_bads.Goals as goal
 
 pub loop-e-preserved : goal.loop-e-preserved

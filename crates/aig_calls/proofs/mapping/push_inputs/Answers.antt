@@ -1,6 +1,6 @@
 use Rattle.aig_calls.proofs.Words.{◌≡◌, ℕ, true, [], ◌∷◌, ◌++◌, get_or, map, ap, ◌∙◌, arith, rules, take_all, Contains-get_or, lit_to, Circuit, place_at, dimacs_number, variable_number}
 use Rattle.aig_unroll.proofs.Others.{inputs_are_others}
-use Rattle.aig_calls.proofs.Listing.{map_turn}
+use Rattle.aig_giving.proofs.Listing.{map_turn}
 use Rattle.aig_calls.proofs.mapping.push_inputs.Goals as goal
 
 pub place-requires-clause-leaf : goal.place-requires-clause-leaf

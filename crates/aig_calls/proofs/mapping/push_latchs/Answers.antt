@@ -1,5 +1,5 @@
 use Rattle.aig_calls.proofs.Words.{◌≡◌, true, [], ◌∷◌, ◌++◌, map, sym, ap, ◌∙◌, arith, rules, map-map, take_all, lit_to, AigLatch, dimacs_number, variable_number}
-use Rattle.aig_calls.proofs.Listing.{map_turn}
+use Rattle.aig_giving.proofs.Listing.{map_turn}
 use Rattle.aig_calls.proofs.mapping.push_latchs.Goals as goal
 
 pub loop-latch-preserved : goal.loop-latch-preserved

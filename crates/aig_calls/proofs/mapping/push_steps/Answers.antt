@@ -1,6 +1,6 @@
 use Rattle.aig_calls.proofs.Words.{◌+◌, ◌++◌, ◌<◌, length, ap, ◌∙◌, zero-add, arith, flat_map, range_with_len, take_all, input_numbers}
 use Rattle.std.proofs.lemmas.List.FromFn.{get_or-range_with_len, length-range_with_len}
-use Rattle.aig_calls.proofs.Listing.{turn}
+use Rattle.aig_giving.proofs.Listing.{turn}
 use Rattle.aig_calls.proofs.mapping.push_steps.Goals as goal
 
 pub loop-t-preserved : goal.loop-t-preserved

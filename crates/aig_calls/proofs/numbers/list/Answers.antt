@@ -1,5 +1,5 @@
 use Rattle.std.proofs.Common.{◌-◌, ◌^◌, length, arith}
-use Rattle.aig_calls.proofs.Listing.{below_more}
+use Rattle.aig_giving.proofs.Listing.{below_more}
 use Rattle.aig_calls.proofs.numbers.list.Goals as goal
 
 pub push_list-requires : goal.push_list-requires

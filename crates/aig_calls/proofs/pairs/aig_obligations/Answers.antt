@@ -1,5 +1,4 @@
-use Rattle.aig_check_commands.specs.declared.command.PairCommand.TheVariants as commands
-use Rattle.aig_calls.proofs.Words.{LIMIT, RunsOnPair, text_in}
+use Rattle.aig_calls.proofs.Words.{LIMIT, RunsCertificate, text_in}
 use Rattle.aig_calls.proofs.Given.{on, printed}
 use Rattle.aig_calls.proofs.pairs.aig_obligations.Goals as goal
 
@@ -7,8 +6,8 @@ pub returns : goal.returns
 returns c =
     let run = c.print_obligations-done in
     let sink = c.new-sink in
-    let text = printed (RunsOnPair LIMIT (commands.Obligations c.args.optimize) c.args.file.now
-    c.args.certificate.now) sink.result run.new.w run.result sink.ensures.writer
+    let text = printed (RunsCertificate LIMIT c.args.optimize c.args.file.now c.args.certificate.now)
+    sink.result run.new.w run.result sink.ensures.writer
     c.new.ensures.items (on c.new-first.result run.ensures.0 c.new-first.ensures.reader (on
     c.new-second.result run.ensures.1 c.new-second.ensures.reader run.ensures.2)) in
     (text_in run.result run.new.w.inner.items, text, c.put.ensures)

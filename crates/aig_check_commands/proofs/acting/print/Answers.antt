@@ -8,9 +8,8 @@ returns-in_err-flush-clause-acts g c =
     let p = err_from_is_err_and c.from_residual-in_err-flush.result c.from_residual-in_err-flush.ensures.1 in
     let failed = rw c.in_err-flush.was at c.flush.ensures.tells in
     rw (p.1, p.2) (acts_ended g.W.Sink.held g.W.Sink.failed c.args.w.now c.act_on.new.w c.flush.new.self
-    c.flush.ensures.kept tt (Err errors.Write) failed c.args.call.now.limit
-    (g.F.Opens.opens c.args.files.now)
-    g.F.File.Source.left g.F.File.Source.failed c.args.call.now.asked
+    c.flush.ensures.kept tt (Err errors.Write) failed g.F.File.Source.left g.F.File.Source.failed
+    c.args.call.now.limit (g.F.Opens.opens c.args.files.now) c.args.call.now.asked
     (map string_bytes c.args.call.now.paths.now) (map string_bytes c.args.call.now.further.now)
     c.in_ok-act_on.ensures)
 
@@ -18,8 +17,8 @@ pub returns-clause-acts : goal.returns-clause-acts
 returns-clause-acts g c =
     let sound = rw c.in_ok-flush.was at c.flush.ensures.tells in
     acts_ended g.W.Sink.held g.W.Sink.failed c.args.w.now c.act_on.new.w c.flush.new.self
-    c.flush.ensures.kept tt (Ok tt) sound c.args.call.now.limit (g.F.Opens.opens c.args.files.now)
-    g.F.File.Source.left g.F.File.Source.failed c.args.call.now.asked
+    c.flush.ensures.kept tt (Ok tt) sound g.F.File.Source.left g.F.File.Source.failed
+    c.args.call.now.limit (g.F.Opens.opens c.args.files.now) c.args.call.now.asked
     (map string_bytes c.args.call.now.paths.now) (map string_bytes c.args.call.now.further.now)
     c.in_ok-act_on.ensures
 

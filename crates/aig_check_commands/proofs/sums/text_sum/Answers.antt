@@ -1,6 +1,6 @@
-use Rattle.aig_check_commands.proofs.Words.{[], ℕ, Global, arith, List, Some, Vec, ap, subst, sym, ◌∙◌, lists_circuit, text_of}
+use Rattle.aig_check_commands.proofs.Words.{ℕ, Global, arith, List, Some, Vec, ap, sym, ◌∙◌, text_of}
 use Rattle.sha2.specs.Sha256.{sha256}
-use Rattle.aig_check_commands.proofs.Made.{only_text}
+use Rattle.aig_check_commands.proofs.Summing.{only_text}
 use Rattle.aig_check_commands.proofs.sums.text_sum.Goals as goal
 
 pub write_text-requires : goal.write_text-requires

@@ -1,5 +1,4 @@
 use Rattle.aig_simulated.proofs.Words.{Err, Ok, err_from_is_err_and, query_with, lists_circuit, question_in}
-use Rattle.aig_answers.specs.declared.error.AnswerError.TheVariants as answers
 use Rattle.aig_simulated.proofs.Telling.{query_asked}
 use Rattle.aig_simulated.proofs.checking.refute_question.Goals as goal
 
@@ -47,6 +46,6 @@ returns-in_err-check_refutation-clause-tells g c =
     rw (p.1, p.2) (
       is.few,
       c.circuit_clauses_are_one.ensures.query (question_in condition claim) 0 c.args.optimize _
-          (Err (answers.Refutation c.in_err-check_refutation.field-0.0))
+          (Err c.in_err-check_refutation.field-0.0)
           (query_with asked.unrolled made) query c.in_err-check_refutation.ensures.shown,
     )
