@@ -166,7 +166,9 @@ class Writer:
         if name == "list":
             return rng.choice([4, GREATEST_EDGE]) if self.is_rare() else rng.randrange(4)
         if name == "steps":
-            return rng.choice([0, 7, GREATEST_NUMBER]) if self.is_rare() else self.steps
+            # So many steps of a circuit without inputs would be made.
+            most = GREATEST_NUMBER if self.circuit.inputs else 7
+            return rng.choice([0, 7, most]) if self.is_rare() else self.steps
         if name == "limit":
             return rng.choice([0, 1, 2, 5, 8, 12, 2**31 + 1, *[300] * 40])
         if name == "i":
