@@ -23,7 +23,7 @@ from aigprove.output.report import PropertyAnswer, Report
 from aigprove.output.signals import Signals
 from aigprove.processes.files import write
 from aigprove.processes.groups import BackgroundCall
-from aigprove.processes.scheduler import Stopped, limited
+from aigprove.processes.scheduler import Stopped, limited, unlimited
 from aigprove.questions.assumptions import SECONDS, Assumptions
 from aigprove.questions.bad_states import BadStates, Covers, FileAbove
 from aigprove.questions.checker import Checker, header_of
@@ -110,9 +110,10 @@ class Table:
         except (KeyboardInterrupt, SystemExit):
             self.print()
             raise
-        self.look_at_assumptions()
-        self.print()
-        self.write()
+        with unlimited():
+            self.look_at_assumptions()
+            self.print()
+            self.write()
         is_known = any(answer.is_answered or answer.steps for answer in self.answers)
         if all(part.said for part in self.parts) and not is_known:
             return FAILED
