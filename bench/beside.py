@@ -1,8 +1,8 @@
 #!/usr/bin/env python3
-"""Makes the tables of ours beside others: beside.py [--yardstick PROGRAM] [--gates N] [--bits N]
+"""Makes the tables of ours beside others: run beside [--yardstick PROGRAM] [--gates N] [--bits N]
 
-`compare.py` for N (1000000) gates, beside ABC and PROGRAM, which has aigtool's command line; `refutations.py` for multipliers of N (7) bits,
-beside cadical, whose proofs are checked, and another checker of proofs; and `bounded.py`, beside ABC's `bmc3`. What isn't there is told,
+`bench/run compare` for N (1000000) gates, beside ABC and PROGRAM, which has aigtool's command line; `bench/run refutations` for multipliers of N (7) bits,
+beside cadical, whose proofs are checked, and another checker of proofs; and `bench/run bounded`, beside ABC's `bmc3`. What isn't there is told,
 and left out."""
 import shutil
 import subprocess

@@ -1,5 +1,5 @@
 #!/usr/bin/env python3
-"""Measures bounded checks by one question beside ABC's: bounded.py [--lrat SOLVER] [STEP ..]
+"""Measures bounded checks by one question beside ABC's: run bounded [--lrat SOLVER] [STEP ..]
 
 For the designs of tests/designs and six machines that are made (`machines.py`), up to each STEP (20, 50): processor seconds of `aigcheck
 bounded`, of cadical, which is asked about one step after the other as by aigprove (or of SOLVER, a cadical from 1.7 on, which is asked

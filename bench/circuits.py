@@ -1,4 +1,4 @@
-"""Texts of circuits to measure with: circuits.py KIND COUNT FILE
+"""Texts of circuits to measure with: run circuits KIND COUNT FILE
 
 KIND is `multiplier`, and COUNT its bits; or `pipeline`, of random gates between latches, or `random`, of random gates, or `shuffled`,
 of the same gates in any order, and COUNT the gates. The same words make the same file.
@@ -8,7 +8,7 @@ import pathlib
 import random
 import sys
 
-sys.path.append(str(pathlib.Path(__file__).resolve().parent.parent / "tests"))
+sys.path.append(str(pathlib.Path(__file__).resolve().parent.parent / "tests" / "support"))
 from aiger import Gates, Machine, joined
 
 TOKENS, STAGES = 16, 52

@@ -1,5 +1,5 @@
 #!/usr/bin/env python3
-"""Measures `aigtool` beside other programs: compare.py TOOL [--yardstick PROGRAM] [--runs N] [--instructions] [GATES ..]
+"""Measures `aigtool` beside other programs: run compare TOOL [--yardstick PROGRAM] [--runs N] [--instructions] [GATES ..]
 
 TOOL is the built program, crates/aigtool/out/aigtool after `rt run` in crates/aigtool. PROGRAM is any program with aigtool's
 command line; what both print is compared. ABC is run where `berkeley-abc` is installed (`&r; &w`, `&r; &write_cnf`), its start

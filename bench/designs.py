@@ -1,5 +1,5 @@
 #!/usr/bin/env python3
-"""Measures bin/aigprove beside ABC on the designs of tests/designs: designs.py [--equal] [SECONDS [DESIGN ..]]
+"""Measures bin/aigprove beside ABC on the designs of tests/designs: run designs [--equal] [SECONDS [DESIGN ..]]
 
 For each design: seconds by the clock and of processor time of ABC's `bmc3` and of `pdr`, each alone and for at most SECONDS (60), and of
 aigprove with all that it runs, and what that answers. `-` is no answer. The last line has the most seconds by the clock that aigprove takes

@@ -1,5 +1,5 @@
 #!/usr/bin/env python3
-"""Measures the gate as it runs: gate.py, beside tests/run
+"""Measures the gate as it runs: run gate, beside tests/run
 
 Looks each second at the toolchain's processes, until there have been none for a minute or it is interrupted, and then prints for each
 crate the processor seconds of its proof, of its tests and of its edits with the check that they begin with, how many edits there are,

@@ -1,5 +1,5 @@
 #!/usr/bin/env python3
-"""Counts instructions of calls on circuits in memory, by callgrind: handles.py [GATES [STEPS]]
+"""Counts instructions of calls on circuits in memory, by callgrind: run handles [GATES [STEPS]]
 
 A file of GATES (100000) random gates is read, written, given STEPS (5) further steps, and its
 clauses are taken. Each call is compared with what the command that does the same takes for that: a

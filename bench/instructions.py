@@ -1,5 +1,5 @@
 #!/usr/bin/env python3
-"""Fails where `aigtool` takes more instructions than it did: instructions.py TOOL [--write]
+"""Fails where `aigtool` takes more instructions than it did: run instructions TOOL [--write]
 
 TOOL is the built program, crates/aigtool/out/aigtool after `rt run` in crates/aigtool. callgrind counts the instructions of six
 commands on a file of 100,000 random gates. Each count is compared with that of instructions.tsv beside this script, and a rise

@@ -1,5 +1,5 @@
 #!/usr/bin/env python3
-"""Measures `aigedit miter` beside reading both files and writing what it writes: joins.py [GATES [RUNS]]
+"""Measures `aigedit miter` beside reading both files and writing what it writes: run joins [GATES [RUNS]]
 
 Two files have the same GATES (1000000) random gates, 1000 inputs and 1000 latches, in any order and in order. `aigtool text` of each
 reads both, and writes as many gates as their miter has but for those that compare; and it reads and writes the miter. Processor

@@ -1,5 +1,5 @@
 #!/usr/bin/env python3
-"""Measures all commands on a large file: large.py [GATES [STEPS]]
+"""Measures all commands on a large file: run large [GATES [STEPS]]
 
 A file of GATES (1000000) random gates, 1000 inputs and 1000 latches, whose 16 outputs are bad states, and STEPS (20) further steps, for
 which `--limit` is given. Each row has the processor seconds of a command, its peak of memory, and how many times as long it takes as on a

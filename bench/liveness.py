@@ -1,5 +1,5 @@
 #!/usr/bin/env python3
-"""Measures bin/aigprove on liveness beside ABC: liveness.py [SECONDS [DESIGN ..]]
+"""Measures bin/aigprove on liveness beside ABC: run liveness [SECONDS [DESIGN ..]]
 
 For each design of tests/fair, with each of its parameters, and each of its liveness assertions: seconds by the clock and of processor time
 of ABC's `l2s` and `pdr` on the file that yosys makes, for at most SECONDS (60), and of aigprove --justice on the same file with all that
@@ -10,7 +10,7 @@ import sys
 from designs import shown, timed
 from measuring import PROVE, heads, new_folder, row, run
 
-import fair
+import fair_designs
 import harness
 from aiger import machine_of
 
@@ -52,7 +52,7 @@ def main():
     seconds, *names = [*sys.argv[1:]] or ["60"]
     heads("design", "l2s; pdr", "aigprove", "answer", "with yosys")
     beyond = []
-    for design in fair.table():
+    for design in fair_designs.table():
         if not names or design.name in names:
             with new_folder() as folder:
                 beyond += measured(design, folder, float(seconds))

@@ -1,5 +1,5 @@
 #!/usr/bin/env python3
-"""Measures `aigcheck` on proofs as long as one likes, which it reads by a pipe while they are made: long_proofs.py AIGTOOL AIGCHECK [GIGABYTES ..]
+"""Measures `aigcheck` on proofs as long as one likes, which it reads by a pipe while they are made: run long_proofs AIGTOOL AIGCHECK [GIGABYTES ..]
 
 AIGTOOL and AIGCHECK are the built programs, crates/NAME/out/NAME after `rt run` in crates/NAME. For each of GIGABYTES (1 10) a proof in
 the LRAT format of so many bytes is made: steps that follow along a chain of gates, each deleted again, and the empty clause. Each row has

@@ -1,4 +1,4 @@
-"""Machines to ask about, made word by word: machines.py FOLDER writes each as a binary file. No bad state is reached but in `lock`."""
+"""Machines to ask about, made word by word: run machines FOLDER writes each as a binary file. No bad state is reached but in `lock`."""
 import itertools
 import pathlib
 import sys

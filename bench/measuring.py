@@ -9,7 +9,7 @@ from collections.abc import Sequence
 from typing import IO
 
 HERE = pathlib.Path(__file__).resolve().parent
-sys.path.append(str(HERE.parent / "tests"))
+sys.path.append(str(HERE.parent / "tests" / "support"))
 from harness import CHECK, EDIT, FORMS, PROVE, TESTS, TOOL, TOP, compile_aigprove, new_folder, numbers, parser
 
 DESIGNS = TESTS / "designs"

@@ -1,5 +1,5 @@
 #!/usr/bin/env python3
-"""Measures bin/aigprove beside the questions that it asks: model_checks.py [GATES [BOUND]]
+"""Measures bin/aigprove beside the questions that it asks: run model_checks [GATES [BOUND]]
 
 It makes a file of GATES (10000) gates in which tokens go through 52 stages, so that the bad state, which is four tokens in the
 last one, isn't reached up to step BOUND (50). Each row has seconds of processor time and by the clock, all programs together: of

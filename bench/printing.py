@@ -1,5 +1,5 @@
 #!/usr/bin/env python3
-"""Measures printed clauses of large files: printing.py [GATES [RUNS]]
+"""Measures printed clauses of large files: run printing [GATES [RUNS]]
 
 Of a file of GATES (200000) random gates, 1000 inputs and 1000 latches, whose outputs are bad states: `aigcheck obligations` of it and
 itself, `aigcheck window` of two steps and of three, and `aigtool cnf` of five times as many gates for 10 steps. Processor seconds, the

@@ -1,5 +1,5 @@
 #!/usr/bin/env python3
-"""Measures bin/aigprove --each on designs with 32 properties: properties.py [COUNT]
+"""Measures bin/aigprove --each on designs with 32 properties: run properties [COUNT]
 
 COUNT designs (all) are measured. Each has instances of four of those of tests/each, without the properties that nobody decides. A row has seconds by the clock and of
 processors: of --each, of --property N for one property after the other, and of ABC's `pdr -a`, which checks nothing; and how many fail of
@@ -9,7 +9,7 @@ import time
 
 from measuring import PROVE, heads, new_folder, numbers, row, run
 
-import each
+import many_properties
 
 # How many properties a design has.
 COUNT = 32
@@ -17,7 +17,7 @@ COUNT = 32
 
 def parts():
     """Designs without assumptions, four at a time, each a step further."""
-    made = [design for design in each.designs() if not design.of("assume")]
+    made = [design for design in many_properties.designs() if not design.of("assume")]
     return [(made + made)[i:i + 4] for i in range(len(made))]
 
 
@@ -27,7 +27,7 @@ def text(designs):
     for i, design in enumerate(designs):
         asserted = design.of("assert")[:left]
         left -= len(asserted)
-        own = each.Many(design.name, [])
+        own = many_properties.Many(design.name, [])
         own.parts = {**design.parts, "assert": asserted, "cover": []}
         names = " ".join(design.of("input")).split()
         modules.append(own.text(is_hard=False))

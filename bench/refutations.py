@@ -1,5 +1,5 @@
 #!/usr/bin/env python3
-"""Measures `aigcheck` on proofs of a solver: refutations.py AIGTOOL AIGCHECK [SOLVER [BITS ..]]
+"""Measures `aigcheck` on proofs of a solver: run refutations AIGTOOL AIGCHECK [SOLVER [BITS ..]]
 
 AIGTOOL and AIGCHECK are the built programs, crates/NAME/out/NAME after `rt run` in crates/NAME. SOLVER (cadical) is given
 `-q --no-binary FILE PROOF` for a proof in the DRAT format, and `--lrat=1` as well for one in the LRAT format, which cadical

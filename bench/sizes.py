@@ -1,5 +1,5 @@
 #!/usr/bin/env python3
-"""Measures the size of aigprove's package: sizes.py [FOLDER]
+"""Measures the size of aigprove's package: run sizes [FOLDER]
 
 Prints the lines of code of each module, without docstrings, comments and blank lines, and the modules and functions that are longer than
 they may be. Ends with status 1 if there are such. FOLDER is lib/aigprove."""

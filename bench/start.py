@@ -1,5 +1,5 @@
 #!/usr/bin/env python3
-"""Measures the processor time of aigprove itself on files in AIGER form: start.py [COUNT [FILE ..]]
+"""Measures the processor time of aigprove itself on files in AIGER form: run start [COUNT [FILE ..]]
 
 That is the time of its own process, without those that it starts: engines, the solver and aigcheck. Prints the median of COUNT (20) runs
 for each file, of those of tests/designs, and of `--version`. A run has two seconds, since what it does afterwards is to wait. Ends with

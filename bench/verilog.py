@@ -1,5 +1,5 @@
 #!/usr/bin/env python3
-"""Measures bin/aigprove on the designs in Verilog of tests/verilog and examples: verilog.py [OTHER [TIMES]]
+"""Measures bin/aigprove on the designs in Verilog of tests/verilog and examples: run verilog [OTHER [TIMES]]
 
 For each design: processor seconds of this tree's aigprove and of that in the tree OTHER, with all that they run, each the best of TIMES
 (3) runs by turns, both with this tree's programs and the same engines. The last row has the sums over the designs that both answer."""

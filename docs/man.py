@@ -1,78 +1,102 @@
 #!/usr/bin/env python3
 """Writes the man pages of the programs into a folder: man.py FOLDER
 
-Their source is the lists of commands of docs/COMMANDS.md, and what aigprove --help says."""
-import argparse
+Those of aigtool, aigedit and aigcheck are made of docs/reference: the lines of each block of the kind `usage`, and the paragraph below
+it. That of aigprove is made of the texts in lib/aigprove/options, as aigprove --help is."""
 import os
 import pathlib
 import re
 import sys
+import textwrap
+from collections.abc import Iterator
 
 TOP = pathlib.Path(os.path.realpath(__file__)).parent.parent
 sys.path.insert(0, str(TOP / "lib"))
 sys.dont_write_bytecode = True
 
 from aigprove import VERSION
-from aigprove.options import parser
+from aigprove.data import text as text_of
+from aigprove.options import parser, tables
 
 ABOUT = {
     "aigtool": "converts AIGER files and prints clauses",
-    "aigedit": "changes AIGER files or joins two",
-    "aigcheck": "checks proofs and witnesses about AIGER files",
-    "aigprove": "asks whether a design can reach a bad state, and has each answer checked",
+    "aigedit": "changes AIGER files or combines two",
+    "aigcheck": "prints clauses of AIGER files, and checks proofs and witnesses",
+    "aigprove": "finds out whether a design can reach a bad state, and has each answer checked",
 }
-ITEM = re.compile(r"^- `(aig\w+) ([^`]*)`: (.*)$", re.MULTILINE)
-STATUSES = "0: it was printed, written or shown. 1: a refusal, a failure, or nothing shown. 2: wrong words."
-CONSTRAINTS = "Before the name of any miter or equal --constraints first says that runs meet the constraints of FILE alone, and " \
-    "--constraints compared that it is compared, too, whether both files meet theirs."
-FILES = "FILE is in AIGER form, text or binary; K is a number of steps, and PROOF is in LRAT or DRAT. docs/COMMANDS.md of the repository " \
-    "describes files of the other forms."
+# The section about options, and a row of its table.
+OPTIONS = re.compile(r"^## Options\n(.*?)^## ", re.DOTALL | re.MULTILINE)
+OPTION = re.compile(r"^\| `(--[^`]*)` \| (.*) \|$", re.MULTILINE)
+# The lines of a block that has commands, and the paragraph below it.
+USAGE = re.compile(r"^```usage\n(.*?)^```\n\n(.*?)\n\n", re.DOTALL | re.MULTILINE)
+STATUSES = {
+    "0": "The answer was printed or written. If the command checks something, the printed line is true of FILE.",
+    "1": "The program refused something, a read or write failed, or memory ran out. Standard error says which.",
+    "2": "The command line isn't valid.",
+}
+FILES = "FILE and OTHER are AIGER files, text or binary. K is a step, counted from 0. PROOF, BASE and STEP are proofs in DRAT or LRAT. " \
+    "docs/reference of the repository describes all commands, with examples."
 
 
-def plain(text):
-    """A text of the page as one of troff's."""
-    text = re.sub(r"\[([^\]]*)\]\([^)]*\)", r"\1", text).replace("`", "").replace("*", "")
-    return re.sub(r"(?m)^(?=[.'])", r"\\&", text.replace("\\", "\\\\").replace("-", "\\-"))
+def plain(text: str) -> str:
+    """Returns a text of a page as one of troff's."""
+    text = re.sub(r" \(\[[^\]]*\]\([^)]*\)\)", "", text)
+    text = re.sub(r"\[([^\]]*)\]\([^)]*\)", r"\1", text).replace("*", "").replace("\\", "\\\\").replace("-", "\\-")
+    return re.sub(r"(?m)^(?=[.'])", r"\\&", re.sub(r"`([^`]*)`", r"\\fB\1\\fP", text))
 
 
-def head(program):
+def head(program: str) -> list[str]:
+    """Returns the first lines of a page."""
     return [f'.TH {program.upper()} 1 "" "aig {VERSION}"', ".SH NAME", f"{program} \\- {plain(ABOUT[program])}", ".SH SYNOPSIS"]
 
 
-def item(words, what):
-    return [".TP", f".B {plain(words)}", plain(what)]
+def item(words: str, what: str) -> list[str]:
+    """Returns the lines of an item of a list."""
+    return [".TP", f".B {plain(words)}", *textwrap.wrap(plain(what), 100)]
 
 
-def of_lists(program, text):
-    """The page of a program whose commands stand in the lists of a text."""
-    items = [(words, what) for name, words, what in ITEM.findall(text) if name == program]
-    about = [FILES, *[CONSTRAINTS] * any("--constraints" in words for words, _ in items)]
-    lines = [*head(program), f".B {program}", ".I COMMAND FILE ..", ".SH DESCRIPTION", plain(" ".join(about)), ".SH COMMANDS"]
-    lines += [line for words, what in items for line in item(words, f"Prints {what}.")]
-    return [*lines, ".SH EXIT STATUS", plain(STATUSES)]
+def statuses(rows: Iterator[tuple[str, str]]) -> list[str]:
+    """Returns the section about exit statuses."""
+    return [".SH EXIT STATUS", *(line for number, when in rows for line in item(number, when))]
 
 
-def of_parser():
-    """The page of aigprove, by the words that it takes."""
-    made, options = parser.make_parser(), []
-    for action in made._actions:
-        if action.help != argparse.SUPPRESS:
-            names, value = ", ".join(action.option_strings) or action.metavar, action.metavar or "|".join(action.choices or [])
-            options += item(f"{names} {value}" if action.option_strings and value else names, action.help)
-    about = re.sub(r"\n  (\w+(?:, \w+)*) +(.*)", r"\n.br\n.B \1\n\2", plain(made.description)).replace("\nAn engine", "\n.br\nAn engine")
-    about = about.replace("\n\n", "\n.PP\n")
-    return [*head("aigprove"), ".B aigprove", ".I FILE .. [TOP] [OPTION ..]", ".SH DESCRIPTION", about.strip(), ".SH OPTIONS", *options,
-            ".SH EXIT STATUS", plain(made.epilog).strip()]
+def of_reference(program: str) -> list[str]:
+    """Returns the page of a program that the reference describes."""
+    text = (TOP / "docs" / "reference" / f"{program}.md").read_text(encoding="utf-8")
+    lines = [*head(program), f".B {program}", ".I COMMAND FILE ..", ".SH DESCRIPTION", plain(FILES), ".SH COMMANDS"]
+    for usage, what in USAGE.findall(text):
+        *others, last = [line.removeprefix(f"{program} ") for line in usage.splitlines()]
+        lines += [line for words in others for line in [".TP", f".B {plain(words)}", ".PD 0"]]
+        lines += [*item(last, what), ".PD"]
+    if found := OPTIONS.search(text):
+        options = (line for words, what in OPTION.findall(found[1]) for line in item(words, what))
+        lines += [".SH OPTIONS", "They stand in front of the command.", *options]
+    return [*lines, *statuses(iter(STATUSES.items()))]
 
 
-def main():
+def of_options() -> list[str]:
+    """Returns the page of aigprove."""
+    about = text_of("options/about.txt").strip().replace("\n\n", "\n.PP\n")
+    lines = [*head("aigprove"), ".B aigprove", ".I [OPTION ..] FILE .. [TOP]", ".SH DESCRIPTION", plain(about).replace("\\&.PP", ".PP")]
+    lines += [".SH ENGINES", *(line for it in tables.engines() for line in item(it.name, it.does)), ".SH OPTIONS"]
+    for section in tables.sections():
+        lines.append(f".SS {plain(section.title)}")
+        for option in section.options:
+            choices = "|".join(parser.made_by().get(option.flags[-1], {}).get("choices") or [])
+            words = f"{', '.join(option.flags)} {option.value or choices}".replace("files ", "").strip()
+            lines += item(words, option.help_text())
+    lines += item("-h, --help", "Prints a help text and exits.")
+    return [*lines, *statuses((it.number, it.when) for it in tables.statuses())]
+
+
+def main() -> None:
     if len(sys.argv) != 2:
         sys.exit("usage: man.py FOLDER")
-    folder, text = pathlib.Path(sys.argv[1]), (TOP / "docs" / "COMMANDS.md").read_text(encoding="utf-8")
+    folder = pathlib.Path(sys.argv[1])
     folder.mkdir(parents=True, exist_ok=True)
     for program in ABOUT:
-        lines = of_parser() if program == "aigprove" else of_lists(program, text)
-        lines += [".SH SEE ALSO", ", ".join(f".BR {other} (1)"[4:].replace(" (1)", "(1)") for other in ABOUT if other != program)]
+        lines = of_options() if program == "aigprove" else of_reference(program)
+        lines += [".SH SEE ALSO", ", ".join(f"{other}(1)" for other in ABOUT if other != program)]
         (folder / f"{program}.1").write_text("\n".join(lines) + "\n", encoding="ascii")
 
 

@@ -1,7 +1,7 @@
 #!/usr/bin/env python3
-"""Draws docs/waves.png, the picture in COMMANDS, by gtkwave on a screen of its own: picture.py [OUT]
+"""Draws docs/waves.png, the picture in docs/reference/aigprove.md, by gtkwave on a screen of its own: picture.py [OUT]
 
-The run is what `aigprove --vcd` writes of examples/queue.v. Where gtkwave, Xvfb or yosys isn't there it draws nothing, and says so."""
+The run is what `aigprove --vcd` writes of examples/queue.v. If gtkwave, Xvfb or yosys isn't installed, it draws nothing, and says so."""
 import os
 import pathlib
 import shutil

@@ -1,7 +1,7 @@
 #!/usr/bin/env python3
 """Prints the fair lasso that a witness of a live file is: lasso.py FILE J WITNESS
 
-FILE is in AIGER form, text or binary; WITNESS, in the form of docs/COMMANDS.md, is one of the file that `aigedit live FILE J` prints. The
+FILE is in AIGER form, text or binary; WITNESS, in the form of docs/reference/witnesses.md, is one of the file that `aigedit live FILE J` prints. The
 lasso is a witness of FILE for its justice property J: without the values of the latches that the live file has more, and of its last
 input.
 

@@ -1,7 +1,7 @@
 #!/usr/bin/env python3
 """Prints the run of a witness as a value change dump (VCD, IEEE 1364), which wave viewers such as gtkwave read.
 
-FILE is in AIGER form, text or binary; WITNESS is in the form of docs/COMMANDS.md. Inputs, latches, outputs, bad state properties
+FILE is in AIGER form, text or binary; WITNESS is in the form of docs/reference/witnesses.md. Inputs, latches, outputs, bad state properties
 and constraints are signals, in a scope for each kind, by their names in FILE, and else by the letter of their kind and their
 position. Bits that are named `d[0]`, `d[1]` and so on are one word `d`, and the parts of a name `a.b.d` are scopes. A value is 0,
 1 or x, by simulation in three values. Step t stands at time t; the last one ends the dump. In a name every byte that isn't

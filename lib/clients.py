@@ -2,7 +2,8 @@
 """Writes the clients of the library for C from include/aig.h.
 
 The header's declarations and their comments are the table of the calls. Of it are made lib/python/aig_calls.py, lib/rust/src/calls.rs and
-made.rs, and tests/clients/made.h and made.rs, by which rows are run through each call that gives bytes or numbers or checks something.
+made.rs, and tests/clients/made.h and made.rs, by which rows are run through each call that gives bytes or numbers or checks something. Of
+the calls on circuits in memory only the declarations are made, for Python in aig_calls.py and for Rust in handle_calls.rs.
 One number is returned alone, and several as what RESULTS says, which is written by hand, as is each call with other results.
 
 These files are not kept by git: ./install, lib/rust/build.rs and the tests have them made. One that is as it should be stays untouched.
@@ -14,16 +15,19 @@ import textwrap
 
 TOP = pathlib.Path(__file__).resolve().parent.parent
 DECLARED = re.compile(r"^/\* ((?:(?!\*/).)*?) \*/\nuint32_t (\w+)\(([^)]*)\);", re.MULTILINE | re.DOTALL)
+HANDLED = re.compile(r"^(uint32_t|void) (\w+)\(([^)]*)\);", re.MULTILINE)
 WRITTEN = "written by lib/clients.py from include/aig.h"
 # How wide lines of code and of comments are, as elsewhere.
 WIDTH = 138
 OUT = [("uint8_t*", "out"), ("size_t", "out_len"), ("size_t*", "needed")]
 RUST = {"const uint8_t*": "*const u8", "uint8_t*": "*mut u8", "int32_t*": "*mut i32", "size_t*": "*mut usize"}
 RUST |= {"size_t": "usize", "uint64_t": "u64", "uint32_t": "u32", "bool": "bool"}
+RUST |= {"aig_circuit_t*": "*mut Handle", "aig_simulation_t*": "*mut Handle", "aig_unrolling_t*": "*mut Handle", "aig_node_t*": "*mut Node", "aig_latch_t*": "*mut Latch"}
+RUST |= {"bool*": "*mut bool", "uint32_t*": "*mut u32", "const uint32_t*": "*const u32", "const size_t*": "*const usize"}
 PYTHON = {"uint8_t*": "_U8", "int32_t*": "_I32", "size_t*": "_SIZES", "const uint8_t*": "_TEXT"}
-PYTHON |= {"size_t": "_size", "uint64_t": "_step", "uint32_t": "ctypes.c_uint32", "bool": "_bool"}
-# What the calls in Python take from lib/python/aig.py.
-SHARED = "_I32 _SIZES _TEXT _U8 _bool _bytes _declare _given _hold _number _size _step _steps _told".split()
+PYTHON |= {"size_t": "_size", "uint64_t": "_step", "uint32_t": "_U32", "bool": "_bool"}
+# What the calls in Python take from lib/python/aig_library.py.
+SHARED = "_I32 _POINTER _SIZES _TEXT _U32 _U8 _bool _bytes _declare _given _hold _number _size _step _steps _told".split()
 # What clients in Rust and Python return of several numbers, whose fields have their names.
 RESULTS = {("bad", "step"): "Shown", ("justice", "start", "last"): "Lasso"}
 
@@ -49,6 +53,8 @@ typedef uint32_t tells(const struct words *, size_t *told);
 
 class Call:
     """A call of the header: its comment, its name, its parameters, and what a client gives it."""
+
+    has_status = True
 
     def __init__(self, doc, name, given):
         self.doc, self.full, self.name = re.sub(r"\s+\*? ?", " ", doc), name, name.removeprefix("aig_")
@@ -91,10 +97,24 @@ def comment(text, start, less=0):
     return "\n".join(textwrap.wrap(text, WIDTH - less, initial_indent=start, subsequent_indent=start))
 
 
+class HandleCall:
+    """A call on a circuit or simulation in memory: whether it gives a status, its name, and its parameters."""
+
+    def __init__(self, kind, name, given):
+        self.has_status, self.full = kind != "void", name
+        words = [re.fullmatch(r"(.*?)\s*(\w+)", re.sub(r"\s+", " ", it.strip())).groups() for it in given.split(",")]
+        self.parameters = [(kind.replace(" *", "*"), word) for kind, word in words]
+
+
+def handle_calls():
+    return [HandleCall(*found) for found in HANDLED.findall((TOP / "include" / "aig_circuit.h").read_text(encoding="utf-8"))]
+
+
 # ---- Rust
 
 def rust_declaration(call):
-    return laid_out(f"pub fn {call.full}(", [f"{word}: {RUST[kind]}" for kind, word in call.parameters], ") -> u32;", "    ")
+    result = " -> u32" if call.has_status else ""
+    return laid_out(f"pub fn {call.full}(", [f"{word}: {RUST[kind]}" for kind, word in call.parameters], f"){result};", "    ")
 
 
 def rust_call(call):
@@ -115,9 +135,15 @@ def rust_call(call):
     return f"{doc}\npub fn {call.name}({takes}) -> Result<{result}> {{\n    {body}\n}}\n"
 
 
-def rust_files(found):
+def rust_declarations(found, header, uses=""):
     declared = "\n".join(map(rust_declaration, found))
-    yield "lib/rust/src/calls.rs", f"//! The calls as `aig.h` declares them: {WRITTEN}.\n\nunsafe extern \"C\" {{\n{declared}\n}}\n"
+    head = f"//! The calls as `{header}` declares them: {WRITTEN.replace('aig.h', header)}.\n\n"
+    return f"{head}{uses}unsafe extern \"C\" {{\n{declared}\n}}\n"
+
+
+def rust_files(found):
+    yield "lib/rust/src/calls.rs", rust_declarations(found, "aig.h")
+    yield "lib/rust/src/handle_calls.rs", rust_declarations(handle_calls(), "aig_circuit.h", "use crate::held::{Handle, Latch, Node};\n\n")
     used = ", ".join(sorted(["ROOM", "Result", "calls", "given", "held", *RESULTS.values()]))
     head = f"//! Safe functions, each over its call: {WRITTEN}.\n\nuse crate::{{{used}}};\n\n"
     safe = "// SAFETY: each pointer and length is of a slice that is borrowed for the call, and what is written is apart from it.\n\n"
@@ -162,12 +188,23 @@ def python_call(call):
     return f"{head}\n{doc}\n{laid_out(f'{does}(', words, end, '    ')}\n"
 
 
+def python_handle_calls():
+    """What the calls on circuits in memory take: any pointer as one."""
+    text = ""
+    for has_status in (True, False):
+        found = [call for call in handle_calls() if call.has_status == has_status]
+        rows = "".join(laid_out(f'"{call.full}": [', ["_POINTER" if kind[-1] == "*" else PYTHON[kind] for kind, _ in call.parameters],
+                                "],", "    ") + "\n" for call in found)
+        text += f"_declare({{\n{rows}}}{'' if has_status else ', None'})\n"
+    return text
+
+
 def python_files(found):
-    head = f'"""The calls of `aig.h`, for the module aig: {WRITTEN}."""\nfrom __future__ import annotations\n\nimport ctypes\n\n'
-    head += f"from aig import {', '.join(sorted([*SHARED, *RESULTS.values()]))}\n\n"
+    head = f'"""The calls of `aig.h`, for the module aig: {WRITTEN}."""\nfrom __future__ import annotations\n\n'
+    head += f"from aig_library import {', '.join(sorted([*SHARED, *RESULTS.values()]))}\n\n"
     takes = "\n".join(f'    "{call.full}": [{", ".join(PYTHON[kind] for kind, _ in call.parameters)}],' for call in found)
-    names = textwrap.fill(" ".join(call.name for call in found if call.is_plain), WIDTH - 4, initial_indent="    ", subsequent_indent="    ")
-    text = f"# What each call takes.\n_declare({{\n{takes}\n}})\n\n__all__ = \"\"\"\n{names}\n\"\"\".split()\n"
+    names = textwrap.indent(textwrap.fill(" ".join(f'"{call.name}",' for call in found if call.is_plain), WIDTH - 4), "    ")
+    text = f"# What each call takes.\n_declare({{\n{takes}\n}})\n{python_handle_calls()}\n__all__ = [\n{names}\n]\n"
     yield "lib/python/aig_calls.py", head + text + "".join("\n\n" + python_call(call) for call in found if call.is_plain)
 
 

@@ -2,6 +2,7 @@
 import contextlib
 import os
 import signal
+import time
 from collections.abc import Iterator, Sequence
 
 from aigprove.designs.front_ends import LIVE, TranslationTimeout
@@ -12,12 +13,10 @@ from aigprove.output.messages import say
 from aigprove.processes.files import new_folder
 from aigprove.processes.groups import adopt, bury, remove
 from aigprove.processes.scheduler import Scheduler, Scope, Stopped, limited
-from aigprove.questions.bad_states import BadStates, Property
+from aigprove.questions.bad_states import BadStates
 from aigprove.questions.checker import Checker
 from aigprove.questions.target import Target
 
-# What guesses what corresponds in two files, and what asks about that.
-GUESSING = ["guesses", "scorr", "merging"]
 SIGNALS = [signal.SIGTERM, signal.SIGHUP, signal.SIGINT, signal.SIGALRM]
 
 
@@ -37,9 +36,14 @@ def targets(options: Options, above: str, checker: Checker) -> Iterator[Target]:
         yield Pair(options, above, checker)
         return
     source = BadStates(options, above, checker)
+    if LIVE in options.design.later and source.given.has_justice() and not source.answers():
+        from aigprove.questions.justice import Justice
+
+        yield from Justice(source.given).each()
+        return
     is_later = source.has_later(options.design.later & {LIVE})
     if not is_later or source.given.design and source.given.design.assertions:
-        yield source if options.property is None else Property(source, options.property)
+        yield source if options.property is None else source.one(options.property)
     if is_later:
         from aigprove.questions.justice import lives
 
@@ -75,7 +79,7 @@ def asked(options: Options, above: str, checker: Checker) -> int:
             # The assertions have their answer, and the time was over while the file of what is
             # asked next was made, or while that was asked.
             tell_late(str(why))
-            print("nothing was shown of liveness")
+            print("undecided: nothing was shown of liveness")
         statuses.append(OPEN if ended is None else ended)
     finally:
         end_evidence(inquiries)
@@ -126,13 +130,10 @@ def end_all(scheduler: Scheduler) -> None:
 
 def answer(options: Options) -> int:
     """Answers what a command line asks, and returns the exit status."""
+    begun = time.monotonic()
     # Processes are forked before there are threads.
     scheduler = Scheduler(options.jobs, options.memory)
     adopt()
-    if options.equal:
-        from aigprove.processes.fork_server import ForkServer
-
-        scheduler.server = ForkServer(GUESSING)
     programs, task = options.programs, Scope(scheduler).task("main")
     temporary = [os.environ.get("TMPDIR", ""), "/tmp", "."]
     checker = Checker.begin(task, programs.aigtool, programs.aigedit, programs.aigcheck,
@@ -148,5 +149,11 @@ def answer(options: Options) -> int:
             end_all(scheduler)
             remove(above)
     tell_late(late)
-    print("2\n." if options.aiger else "nothing was shown")
+    if options.each:
+        from aigprove.output.report import Report
+
+        # What wasn't read has no properties so far.
+        report = Report(options.files[0], [], seconds=time.monotonic() - begun, line=late)
+        report.write(options.json, options.junit)
+    print("2\n." if options.aiger else "undecided: nothing was shown")
     return OPEN

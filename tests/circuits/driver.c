@@ -1,6 +1,6 @@
 /* Makes the calls on circuits in memory that scripts on standard input say, and prints how each ended: driver [memory]
  *
- * made.h, which tests/circuits.py writes from the header, has a function for each call, which takes what it gives from the words of the
+ * made.h, which tests/oracles/test_circuits.py writes from the header, has a function for each call, which takes what it gives from the words of the
  * line. A handle is given by its number, bytes in hexadecimal, a list with commas, or as `-` where it is empty, and memory for an answer
  * by how many items it has room for. The line `script` empties the handles, and says how many pieces of memory aren't free then.
  *
@@ -63,6 +63,7 @@ void __wrap_free(void *at) {
 
 static aig_circuit_t circuits[HANDLES];
 static aig_simulation_t simulations[HANDLES];
+static aig_unrolling_t unrollings[HANDLES];
 static uint32_t sum;
 
 static uint32_t table[256];
@@ -90,6 +91,11 @@ static void add_edges(const uint32_t *edges, size_t count) {
   for (size_t i = 0; i < count; i++) add(edges[i]);
 }
 
+static void add_sizes(const size_t *items, size_t count) {
+  add(count);
+  for (size_t i = 0; i < count; i++) add(items[i]);
+}
+
 static void add_nodes(aig_circuit_t *circuit) {
   static aig_node_t nodes[MOST_ITEMS];
   static aig_latch_t latches[MOST_ITEMS];
@@ -99,8 +105,7 @@ static void add_nodes(aig_circuit_t *circuit) {
   add(count);
   for (size_t i = 0; i < count; i++) add(nodes[i].kind), add(nodes[i].fanin0), add(nodes[i].fanin1);
   answers(aig_circuit_inputs(circuit, inputs, MOST_ITEMS, &count));
-  add(count);
-  for (size_t i = 0; i < count; i++) add(inputs[i]);
+  add_sizes(inputs, count);
   answers(aig_circuit_latchs(circuit, latches, MOST_ITEMS, &count));
   add(count);
   for (size_t i = 0; i < count; i++) {
@@ -151,6 +156,26 @@ static void add_simulation(aig_simulation_t *simulation) {
   for (size_t i = 0; i < count; i++) add(items[i]);
 }
 
+/* Adds the clauses of initial values of an unrolled circuit, and what each of its steps has. */
+static void add_unrolling(aig_unrolling_t *unrolling) {
+  static int32_t numbers[MOST_ITEMS];
+  static uint32_t bads[MOST_ITEMS];
+  static size_t inputs[MOST_ITEMS];
+  size_t steps = 0, count = 0;
+  if (!answers(aig_unrolling_steps(unrolling, &steps))) return;
+  answers(aig_unrolling_initial_clauses(unrolling, numbers, MOST_ITEMS, &count));
+  add_edges((const uint32_t *)numbers, count);
+  for (size_t step = 0; step <= steps; step++) {
+    answers(aig_unrolling_step_clauses(unrolling, step, numbers, MOST_ITEMS, &count));
+    add_edges((const uint32_t *)numbers, count);
+    answers(aig_unrolling_bads(unrolling, step, bads, MOST_ITEMS, &count));
+    add_edges(bads, count);
+    count = 0;
+    if (step) answers(aig_unrolling_added_inputs(unrolling, step, inputs, MOST_ITEMS, &count));
+    add_sizes(inputs, count);
+  }
+}
+
 /* The sum of all that is held: a CRC of each handle's number and contents. */
 static uint32_t sum_of_all(void) {
   size_t count;
@@ -162,6 +187,7 @@ static uint32_t sum_of_all(void) {
     }
   }
   for (int i = 0; i < HANDLES; i++) add(i), add_simulation(&simulations[i]);
+  for (int i = 0; i < HANDLES; i++) add(i), add_unrolling(&unrollings[i]);
   return ~sum;
 }
 
@@ -201,6 +227,7 @@ static size_t next_number(void) {
 
 static aig_circuit_t *next_circuit(void) { return &circuits[next_number() % HANDLES]; }
 static aig_simulation_t *next_simulation(void) { return &simulations[next_number() % HANDLES]; }
+static aig_unrolling_t *next_unrolling(void) { return &unrollings[next_number() % HANDLES]; }
 
 static void put(struct slice *slice, enum kind kind, size_t number) {
   void *at = (uint8_t *)slice->at + slice->len++ * SIZES[kind];
@@ -347,7 +374,8 @@ static void copy_all(void) {
   calls = false;
 }
 
-/* Puts the copies back, of which there are others then. */
+/* Puts the copies back, of which there are others then. Unrolled circuits aren't copied: no call but one that adds a step changes one, and
+ * that bears no refusal. */
 static void restore_all(void) {
   calls = true;
   for (int i = 0; i < HANDLES; i++) {
@@ -393,6 +421,7 @@ static void begin_anew(void) {
     aig_circuit_free(&copies[i]);
     aig_simulation_free(&simulations[i]);
     aig_simulation_free(&simulation_copies[i]);
+    aig_unrolling_free(&unrollings[i]);
   }
   calls = false;
   printf("script %ld\n", taken);

@@ -20,7 +20,7 @@ use Rattle.aig_subjects.specs.declared.subject.FileSubject.TheVariants.{Own}
 use Rattle.aig_check_commands.specs.Sums.{IsSum}
 use Rattle.aig_format.specs.Circuit.{circuit_of}
 use Rattle.sha2.specs.Sha256.{sha256}
-use Rattle.aig_check_commands.proofs.Outcomes.{text_of_printed}
+use Rattle.aig_check_commands.proofs.check_lemmas.Outcomes.{text_of_printed}
 use Rattle.aig_callers.proofs.Asking.{all_taken}
 use Rattle.aig_callers.proofs.Text.{all_held}
 

@@ -1,5 +1,5 @@
 -- What the contract of `aigcheck` says of words and files that are known.
-use Rattle.aig_base.proofs.Words.{◌≡◌, ℕ, ◌+◌, ◌^◌, ◌<◌, ◌≤◌, Bool, true, false, IsTrue, List, [], ◌∷◌, ◌++◌, inl, inr, length, length-append, Option, None, Some, Result, Ok, Err, IfOk, Appends, IsAtEnd, refl, sym, ap, subst, ◌∙◌, arith, ◌==◌, false≢true, codes}
+use Rattle.aig_base.proofs.Words.{◌≡◌, ◌≢◌, ℕ, ◌+◌, ◌^◌, ◌<◌, ◌≤◌, Bool, true, false, IsTrue, List, [], ◌∷◌, ◌++◌, inl, inr, length, length-append, Option, None, Some, Result, Ok, Err, IfOk, Appends, IsAtEnd, refl, sym, ap, subst, ◌∙◌, arith, ◌==◌, false≢true, codes}
 use Rattle.std.specs.Prelude.{decimal, replicate, slice_index, take}
 use Rattle.std.proofs.lemmas.Fmt.{decimal_digit}
 use Rattle.aig_format.specs.File.{File}
@@ -31,20 +31,20 @@ use Rattle.aig_check_commands.specs.declared.command.Command.{Command}
 use Rattle.aig_check_commands.specs.declared.command.Command.TheVariants as commands
 use Rattle.aig_check_commands.specs.declared.command.FileCommand.{FileCommand}
 use Rattle.aig_check_commands.specs.declared.command.FileCommand.TheVariants as on_file
-use Rattle.aig_check_commands.specs.declared.justice.Justice.{Justice}
 use Rattle.aig_check_commands.specs.declared.error.CheckError.{CheckError}
 use Rattle.aig_check_commands.specs.Acting.{Acts, RanAll, RanOn}
 use Rattle.aig_check_commands.specs.CommandWords.{AreCommand, FitNone, IsAlone, IsCall, IsWhole, command_of, equal_name, form_of, name_of, path_count, paths_of, raw_alone, raw_word}
-use Rattle.aig_check_commands.specs.Justice.{AreJustice, is_asked, made_for, subject_of}
+use Rattle.aig_check_commands.specs.FileSubjects.{AskForNone, GiveFairness, GiveSubject, fairness_word, is_asked, line_of}
 use Rattle.aig_check_commands.specs.Checked.{RunsGoal, answer_of}
-use Rattle.aig_check_commands.specs.Goals.{line_of}
 use Rattle.aig_check_commands.specs.Simulating.{RunsSimulated}
-use Rattle.aig_simulated.specs.Simulated.{Proofs, proofs_of}
+use Rattle.aig_witness_circuit_checks.specs.Simulated.{Proofs, proofs_of}
 use Rattle.aig_subjects.specs.declared.subject.FileSubject.{FileSubject}
-use Rattle.aig_subjects.specs.declared.subject.FileSubject.TheVariants.{Own}
+use Rattle.aig_edit_laws.specs.declared.fairness.Fairness.{Fairness}
+use Rattle.aig_edit_laws.specs.declared.fairness.Fairness.TheVariants.{Alone, Justice}
+use Rattle.aig_subjects.specs.declared.subject.FileSubject.TheVariants.{Live, Own, Rounds}
 use Rattle.aig_check_commands.specs.Opening.{AreOpened, OnOpening, OpensAll, unopened}
 use Rattle.aig_check_commands.specs.Running.{Answers, IsAskedBy}
-use Rattle.aig_check_commands.proofs.Outcomes.{text_of_printed}
+use Rattle.aig_check_commands.proofs.check_lemmas.Outcomes.{text_of_printed}
 use Rattle.aig_callers.specs.Instances.{AreFilesOf, AreNamed, IsOf, Shows, ShowsAsked, ShowsGoal, ShowsSimulated}
 use Rattle.aig_callers.proofs.Asking.{all_taken}
 use Rattle.aig_callers.proofs.Text.{all_held}
@@ -207,37 +207,12 @@ module _ {F W : Type 0} (file other : List ℕ) (left : F → Option (List ℕ))
               (λ fs tells. (whole text appends ∙ line, tells.0)) subject r files after is beside
               checks.reads.reads
 
-      -- so it was where a justice property may be asked about
-      check_shown : (a : Option Justice) (subject : Subject) (goal : Goal) (base step : Bool)
-          (r : F) (files after proofs used : List F) (u : Unit {0}) → left r ≡ Some file
-          → Beside (path_count subject) files
-          → RunsGoal left failed left failed held write_failed (2 ^ 24) (subject_of a subject) goal
-          base step (take (file_count subject) (r ∷ files)) proofs w (Ok u) after used made
-          → ShowsGoal (subject_of a subject) goal file other out
-      check_shown None subject goal base step r files after proofs used u is beside ran =
-          goal_shown subject goal base step r files after proofs used u is beside ran
-      check_shown (Some a) (subjects.File own) goal base step r files after proofs used u is beside
-          ran =
-          goal_shown (subjects.File (made_for a)) goal base step r files after proofs used u is
-          beside ran
-      check_shown (Some a) (subjects.Certified own) goal base step r files after proofs used u is
-          beside ran =
-          goal_shown (subjects.Certified (made_for a)) goal base step r files after proofs used u is
-          beside ran
-      check_shown (Some a) (subjects.Miter comparison) goal base step r files after proofs used u is
-          beside ran =
-          goal_shown (subjects.Miter comparison) goal base step r files after proofs used u is
-          beside ran
-      check_shown (Some a) (subjects.MiterCertified comparison) goal base step r files after proofs
-          used u is beside ran =
-          goal_shown (subjects.MiterCertified comparison) goal base step r files after proofs used u
-          is beside ran
-
       -- a command on FILE itself was run
       file_shown : (c : FileCommand) (r rest p used : F) (u : Unit {0}) → left r ≡ Some file
-          → RanAll left failed held write_failed (2 ^ 24) None (commands.File c) (r ∷ p ∷ []) w (Ok u)
+          → RanAll left failed held write_failed (2 ^ 24) Own (commands.File c) (r ∷ p ∷ []) w
+          (Ok u)
           (rest ∷ used ∷ []) made
-          → Shows (commands.File c) file other out
+          → Shows Own (commands.File c) file other out
       file_shown c r rest p used u is ran =
           let told = text_of_printed ran in
           let of = read_of r rest is (asked_file c) told.1.text (told.1.verdict.whole tt).1 in (
@@ -259,38 +234,42 @@ module _ {F W : Type 0} (file other : List ℕ) (left : F → Option (List ℕ))
           (of.0, of.1, (whole told.0 told.2 ∙ of.2.means.1, of.2.means.0.0))
 
       -- what was done with the files is so of FILE and OTHER
-      all_shown : (a : Option Justice) (c : Command) (r : F) (files others : List F) (u : Unit {0})
+      all_shown : (own : FileSubject) (c : Command) (r : F) (files others : List F) (u : Unit {0})
           → left r ≡ Some file → Beside (paths_of c) files
-          → RanAll left failed held write_failed (2 ^ 24) a c (r ∷ files) w (Ok u) others made
-          → ShowsAsked (record { justice = a; command = c }) file other out
-      all_shown None (commands.Check subject goal base step) r files others u is beside ran =
-          check_shown None subject goal base step r files _ _ _ u is beside ran
-      all_shown (Some a) (commands.Check subject goal base step) r files others u is beside ran =
-          λ checks. check_shown (Some a) subject goal base step r files _ _ _ u is beside ran
-      all_shown None (commands.Simulated o) r (s ∷ a ∷ b ∷ c ∷ d ∷ e ∷ [])
+          → RanAll left failed held write_failed (2 ^ 24) own c (r ∷ files) w (Ok u) others made
+          → Shows own c file other out
+      all_shown own (commands.Check (subjects.File f) goal base step) r files others u is beside
+          ran =
+          goal_shown (subjects.File own) goal base step r files _ _ _ u is beside ran
+      all_shown own (commands.Check (subjects.Certified f) goal base step) r files others u is
+          beside ran =
+          goal_shown (subjects.Certified own) goal base step r files _ _ _ u is beside ran
+      all_shown own (commands.Check (subjects.Miter comparison) goal base step) r files others u is
+          beside ran =
+          goal_shown (subjects.Miter comparison) goal base step r files _ _ _ u is beside ran
+      all_shown own (commands.Check (subjects.MiterCertified comparison) goal base step) r files
+          others u is beside ran =
+          goal_shown (subjects.MiterCertified comparison) goal base step r files _ _ _ u is beside
+          ran
+      all_shown own (commands.Simulated o) r (s ∷ a ∷ b ∷ c ∷ d ∷ e ∷ [])
           (rest ∷ next ∷ a_rest ∷ b_rest ∷ c_rest ∷ d_rest ∷ e_rest ∷ []) u is beside ran =
-          simulated_shown Own o r rest s next (proofs_of a b c d e)
+          simulated_shown own o r rest s next (proofs_of a b c d e)
           (proofs_of a_rest b_rest c_rest d_rest e_rest) u is ran
-      all_shown (Some j) (commands.Simulated o) r (s ∷ a ∷ b ∷ c ∷ d ∷ e ∷ [])
-          (rest ∷ next ∷ a_rest ∷ b_rest ∷ c_rest ∷ d_rest ∷ e_rest ∷ []) u is beside ran =
-          λ checks. simulated_shown (made_for j) o r rest s next (proofs_of a b c d e)
-          (proofs_of a_rest b_rest c_rest d_rest e_rest) u is ran
-      all_shown a (commands.Simulated o) r files others u is beside ran = absurd ran
-      all_shown None (commands.File c) r (p ∷ []) (rest ∷ used ∷ []) u is beside ran =
+      all_shown own (commands.Simulated o) r files others u is beside ran = absurd ran
+      all_shown Own (commands.File c) r (p ∷ []) (rest ∷ used ∷ []) u is beside ran =
           file_shown c r rest p used u is ran
-      all_shown None (commands.File c) r files others u is beside ran = absurd ran
-      all_shown None c r files others u is beside ran = tt
-      all_shown (Some a) c r files others u is beside ran = λ checks. tt
+      all_shown own (commands.File c) r files others u is beside ran = absurd ran
+      all_shown own c r files others u is beside ran = tt
 
       on_shown : (c : Asked) (paths further : List (List ℕ)) (files others : List F) (u : Unit {0})
           → AreNamed (paths_of c.command) paths → AreOpened OpensFiles (paths ++ further) files
           → RanOn left failed held write_failed (2 ^ 24) c files w (Ok u) others made
           → ShowsAsked c file other out
       on_shown c (path ∷ []) further (r ∷ files) others u named are ran =
-          all_shown c.justice c.command r files others u (are.0.0 named.1)
+          all_shown c.subject c.command r files others u (are.0.0 named.1)
           (no_beside (paths_of c.command) files named.0) ran
       on_shown c (path ∷ next ∷ []) further (r ∷ s ∷ files) others u named are ran =
-          all_shown c.justice c.command r (s ∷ files) others u (are.0.0 named.0)
+          all_shown c.subject c.command r (s ∷ files) others u (are.0.0 named.0)
           (λ two. are.1.0.1 named.1) ran
       on_shown c (path ∷ next ∷ []) further (r ∷ []) others u named are ran = absurd are.1
       on_shown c (path ∷ paths) further [] others u named are ran = absurd are
@@ -322,6 +301,18 @@ no_dash : (words : List (List ℕ)) (cs : List ℕ) → dashed words ≡ false
     → (more : List (List ℕ)) → ¬ (words ≡ (45 ∷ cs) ∷ more)
 no_dash words cs plain more is = false≢true (sym plain ∙ ap dashed is)
 
+-- nor with a word that asks for another circuit of FILE
+no_subject_word : (words : List (List ℕ)) → dashed words ≡ false → AskForNone words
+no_subject_word words plain Own more made is = absurd (made refl)
+no_subject_word words plain (Live (Justice property)) more made is =
+    false≢true (sym plain ∙ ap dashed is)
+no_subject_word words plain (Live Alone) more made is = false≢true (sym plain ∙ ap dashed is)
+no_subject_word words plain (Rounds (Justice property) rounds) more made is =
+    false≢true (sym plain ∙ ap dashed is)
+no_subject_word words plain (Rounds Alone rounds) more made is =
+    false≢true (sym plain ∙ ap dashed is)
+no_subject_word words plain own more made is = false≢true (sym plain ∙ ap dashed is)
+
 -- the words of a command with all its settings left out
 abbrev pub plain_words : Action → List (List ℕ) → List (List ℕ) → List (List ℕ)
     → List (List ℕ)
@@ -337,13 +328,13 @@ plainly paths k further = record {
   optimize = true;
 }
 
-module _ (justice : Option Justice) (words : List (List ℕ)) where
+module _ (own : FileSubject) (words : List (List ℕ)) where
   -- words that give a command, and no limit and no constraints before it
   asked_call : (more : List (List ℕ)) (c : Command) (a : Arguments)
       → ((rest : List (List ℕ)) → ¬ (words ≡ codes "--limit" ∷ rest))
-      → AreJustice justice words more
-      → dashed more ≡ false → AreCommand more c a → IsTrue (is_asked justice c)
-      → IsCall words (2 ^ 24) (record { justice = justice; command = c }) a.paths a.further
+      → GiveSubject own words more
+      → dashed more ≡ false → AreCommand more c a → IsTrue (is_asked own c)
+      → IsCall words (2 ^ 24) (record { subject = own; command = c }) a.paths a.further
   asked_call more c a no_limit asked plain gives allowed = record {
     rest = words;
     limited = inr (record { other = no_limit; all = refl; usual = refl });
@@ -364,11 +355,11 @@ module _ (justice : Option Justice) (words : List (List ℕ)) where
   -- so do those of a command with all its settings left out
   given_call : (a : Action) (paths steps further : List (List ℕ)) (k : ℕ)
       → ((more : List (List ℕ)) → ¬ (words ≡ codes "--limit" ∷ more))
-      → AreJustice justice words (plain_words a paths steps further)
+      → GiveSubject own words (plain_words a paths steps further)
       → dashed (plain_words a paths steps further) ≡ false → length paths ≡ (form_of a).paths
       → AreStep (form_of a).step k steps → length further ≡ further_of (form_of a) k
-      → IsTrue (is_asked justice (command_of a k false true))
-      → IsCall words (2 ^ 24) (record { justice = justice; command = command_of a k false true })
+      → IsTrue (is_asked own (command_of a k false true))
+      → IsCall words (2 ^ 24) (record { subject = own; command = command_of a k false true })
       paths further
   given_call a paths steps further k no_limit asked plain count step beside allowed =
       asked_call (plain_words a paths steps further) (command_of a k false true)
@@ -386,17 +377,20 @@ module _ (justice : Option Justice) (words : List (List ℕ)) where
         command = refl;
       })) allowed
 
--- without a justice property
+-- of FILE's own circuit
 pub plain_call : (a : Action) (paths steps further : List (List ℕ)) (k : ℕ)
     → dashed (plain_words a paths steps further) ≡ false → length paths ≡ (form_of a).paths
     → AreStep (form_of a).step k steps → length further ≡ further_of (form_of a) k
-    → IsTrue (is_asked None (command_of a k false true))
+    → IsTrue (is_asked Own (command_of a k false true))
     → IsCall (plain_words a paths steps further) (2 ^ 24)
-    (record { justice = None; command = command_of a k false true }) paths further
+    (record { subject = Own; command = command_of a k false true }) paths further
 plain_call a paths steps further k plain count step beside allowed =
-    given_call None (plain_words a paths steps further) a paths steps further k
-    (no_dash (plain_words a paths steps further) _ plain)
-    (no_dash (plain_words a paths steps further) _ plain, refl) plain count step beside allowed
+    given_call Own (plain_words a paths steps further) a paths steps further k
+    (no_dash (plain_words a paths steps further) _ plain) (
+      no_subject_word
+          (plain_words a paths steps further) plain,
+      refl,
+    ) plain count step beside allowed
 
 -- a digit
 pub digit : (n : ℕ) → n < 10 → IsNumber n ((48 + n) ∷ [])
@@ -412,35 +406,63 @@ pub digit_line : (text : List ℕ) (n : ℕ) → n < 10
     → text ++ (decimal n ++ 10 ∷ []) ≡ text ++ ((48 + n) ∷ 10 ∷ [])
 digit_line text n low = ap (λ d. text ++ (d ++ 10 ∷ [])) (decimal_digit n low)
 
--- with the first justice property
-pub justice_call : (a : Action) (paths steps further : List (List ℕ)) (k : ℕ)
-    → dashed (plain_words a paths steps further) ≡ false → length paths ≡ (form_of a).paths
-    → AreStep (form_of a).step k steps → length further ≡ further_of (form_of a) k
-    → IsTrue (is_asked (Some (record { property = 0; rounds = None })) (command_of a k false true))
-    → IsCall (codes "--justice" ∷ codes "0" ∷ plain_words a paths steps further) (2 ^ 24)
-    (record {
-      justice = Some (record { property = 0; rounds = None });
-      command = command_of a k false true;
-    }) paths further
-justice_call a paths steps further k plain count step beside allowed =
-    given_call (Some (record { property = 0; rounds = None }))
-    (codes "--justice" ∷ codes "0" ∷ plain_words a paths steps further) a paths steps further k
-    (λ more is. omega (arith, ap third is)) (
-      plain_words a paths steps further,
-      (codes "0", refl, digit 0 (omega arith)),
-      (no_dash (plain_words a paths steps further) _ plain, refl),
-    ) plain count step beside allowed
-  where
-    third : List (List ℕ) → ℕ
-    third [] = 0
-    third (word ∷ words) = slice_index word 2
-
--- ---- a witness circuit
-
 -- a letter of the first word
 abbrev letter : List (List ℕ) → ℕ
 letter [] = 0
 letter (word ∷ words) = slice_index word 2
+
+-- nor is the word of a limit one of those of fair runs
+fair_letter : (fairness : Fairness) → slice_index (fairness_word fairness) 2 ≢ 108
+fair_letter (Justice property) is = omega (arith, is)
+fair_letter Alone is = omega (arith, is)
+
+-- words that ask for another circuit of FILE begin with no limit
+no_limit_word : (own : FileSubject) (words rest more : List (List ℕ)) → own ≢ Own
+    → GiveSubject own words rest → ¬ (words ≡ codes "--limit" ∷ more)
+no_limit_word Own words rest more made given is = absurd (made refl)
+no_limit_word (Live fairness) words rest more made given is =
+    fair_letter fairness (ap letter (sym given.1 ∙ is))
+no_limit_word (Rounds fairness rounds) words rest more made given is =
+    fair_letter fairness (ap letter (sym given.1 ∙ is))
+no_limit_word own words rest more made given is =
+    omega (arith, ap letter (sym given.1 ∙ is))
+
+-- so they give a command about it
+pub own_call : (own : FileSubject) (front : List (List ℕ)) (a : Action)
+    (paths steps further : List (List ℕ)) (k : ℕ) → own ≢ Own
+    → GiveSubject own (front ++ plain_words a paths steps further)
+    (plain_words a paths steps further)
+    → dashed (plain_words a paths steps further) ≡ false → length paths ≡ (form_of a).paths
+    → AreStep (form_of a).step k steps → length further ≡ further_of (form_of a) k
+    → IsTrue (is_asked own (command_of a k false true))
+    → IsCall (front ++ plain_words a paths steps further) (2 ^ 24)
+    (record { subject = own; command = command_of a k false true }) paths further
+own_call own front a paths steps further k made given plain count step beside allowed =
+    given_call own (front ++ plain_words a paths steps further) a paths steps further k
+    (λ more. no_limit_word own _ _ more made given) given plain count step beside allowed
+
+-- about fair runs
+pub fair_call : (fairness : Fairness) (front : List (List ℕ)) (a : Action)
+    (paths steps further : List (List ℕ)) (k : ℕ)
+    → GiveFairness fairness (front ++ plain_words a paths steps further)
+    (plain_words a paths steps further)
+    → dashed (plain_words a paths steps further) ≡ false → length paths ≡ (form_of a).paths
+    → AreStep (form_of a).step k steps → length further ≡ further_of (form_of a) k
+    → IsTrue (is_asked (Live fairness) (command_of a k false true))
+    → IsCall (fairness_word fairness ∷ (front ++ plain_words a paths steps further)) (2 ^ 24)
+    (record { subject = Live fairness; command = command_of a k false true }) paths further
+fair_call fairness front a paths steps further k given plain =
+    own_call (Live fairness) (fairness_word fairness ∷ front) a paths steps further k (λ is. cc) (
+      front ++ plain_words a paths steps further,
+      refl,
+      (
+        plain_words a paths steps further,
+        given,
+        (no_dash (plain_words a paths steps further) _ plain, refl),
+      ),
+    ) plain
+
+-- ---- a witness circuit
 
 -- that of the words that name comparisons
 equal_letter : (starts : Starts) → slice_index (equal_name starts) 2 ≡ 117
@@ -513,12 +535,15 @@ module _ (paths proofs : List (List ℕ)) (two : length paths ≡ 2) (five : len
           let none : None ≡ Some c = ap (raw_alone g.step) (sym usual) ∙ alone in
           cc
 
-  -- they give it
-  pub witness_call : dashed words ≡ false
-      → IsCall words (2 ^ 24) (record { justice = None; command = commands.Simulated true }) paths
-      proofs
-  witness_call plain = asked_call None words words (commands.Simulated true)
-      (plainly paths 0 proofs) (no_dash words _ plain) (no_dash words _ plain, refl) plain (inr (
+  -- they give it, about this circuit of FILE
+  witness_given : (own : FileSubject) (front : List (List ℕ))
+      → ((more : List (List ℕ)) → ¬ (front ++ words ≡ codes "--limit" ∷ more))
+      → GiveSubject own (front ++ words) words → dashed words ≡ false
+      → IsCall (front ++ words) (2 ^ 24)
+      (record { subject = own; command = commands.Simulated true }) paths proofs
+  witness_given own front no_limit given plain =
+      asked_call own (front ++ words) words (commands.Simulated true) (plainly paths 0 proofs)
+      no_limit given plain (inr (
         no_whole,
         inr (
           no_alone,
@@ -539,3 +564,18 @@ module _ (paths proofs : List (List ℕ)) (two : length paths ≡ 2) (five : len
           },
         ),
       )) refl
+
+  -- its own
+  pub witness_call : dashed words ≡ false
+      → IsCall words (2 ^ 24) (record { subject = Own; command = commands.Simulated true }) paths
+      proofs
+  witness_call plain =
+      witness_given Own [] (no_dash words _ plain) (no_subject_word words plain, refl) plain
+
+  -- or another
+  pub own_witness_call : (own : FileSubject) (front : List (List ℕ)) → own ≢ Own
+      → GiveSubject own (front ++ words) words → dashed words ≡ false
+      → IsCall (front ++ words) (2 ^ 24)
+      (record { subject = own; command = commands.Simulated true }) paths proofs
+  own_witness_call own front made given plain =
+      witness_given own front (λ more. no_limit_word own _ _ more made given) given plain

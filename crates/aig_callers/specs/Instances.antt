@@ -1,25 +1,24 @@
 -- Serves private clauses alone.
 -- What `aigcheck` printed of files whose bytes are known, and what is then so of them.
-use Rattle.std.specs.Prelude.{◌≡◌, ℕ, ◌^◌, ◌≤◌, not, IsTrue, List, [], ◌∷◌, codes, MatchOption, Option, Some}
+use Rattle.std.specs.Prelude.{◌≡◌, ℕ, ◌^◌, ◌≤◌, List, [], ◌∷◌, codes, Option}
 use Rattle.aig_answers.specs.Goals as showing
 use Rattle.aig_answers.specs.declared.goals.goal.Goal.{Goal}
 use Rattle.aig_format.specs.File.{File}
 use Rattle.aig_format.specs.Fits.{Accepts}
-use Rattle.aig_subjects.specs.Shown.{FileShowsAlways}
+use Rattle.aig_subjects.specs.FileSubjects.{FileShowsAlways}
 use Rattle.aig_subjects.specs.declared.subject.FileSubject.{FileSubject}
-use Rattle.aig_subjects.specs.declared.subject.FileSubject.TheVariants.{Own}
 use Rattle.aig_subjects.specs.declared.subject.Subject.{Subject}
 use Rattle.aig_subjects.specs.declared.subject.Subject.TheVariants as subjects
-use Rattle.aig_check_commands.specs.CommandWords.{IsCall, paths_of, prints}
-use Rattle.aig_check_commands.specs.Goals.{line_of}
-use Rattle.aig_check_commands.specs.Justice.{made_for, subject_of}
+use Rattle.aig_check_commands.specs.CommandWords.{IsCall, paths_of}
+use Rattle.aig_check_commands.specs.FileSubjects.{line_of, subject_of}
 use Rattle.aig_check_commands.specs.Running.{Answers}
 use Rattle.aig_check_commands.specs.Simulating.{simulated_line}
 use Rattle.aig_check_commands.specs.declared.command.Asked.{Asked}
 use Rattle.aig_check_commands.specs.declared.command.Command.{Command}
 use Rattle.aig_check_commands.specs.declared.command.Command.TheVariants as commands
-use Rattle.aig_check_commands.specs.declared.justice.Justice.{Justice}
 use Rattle.aig_edit_laws.specs.Fair.{HasFairLasso}
+use Rattle.aig_edit_laws.specs.Shown.{HasRun}
+use Rattle.aig_edit_laws.specs.declared.fairness.Fairness.{Fairness}
 
 -- the bytes are a file, and this is so of it
 abbrev pub IsOf : List ℕ → (File → Type 0) → Type 0
@@ -30,8 +29,12 @@ abbrev pub AreOf : List ℕ → List ℕ → (File → File → Type 0) → Type
 AreOf bytes others Holds = IsOf bytes (λ f. IsOf others (Holds f))
 
 -- it has no fair lasso of at most k + 1 steps
-abbrev pub HasNoLassoTo : File → ℕ → ℕ → Type 0
-HasNoLassoTo f property k = (n : ℕ) → n ≤ k → ¬ HasFairLasso f property n
+abbrev pub HasNoLassoTo : File → Fairness → ℕ → Type 0
+HasNoLassoTo f fairness k = (n : ℕ) → n ≤ k → ¬ HasFairLasso f fairness n
+
+-- no run of it to a step up to k meets the constraints
+abbrev pub HasNoRunTo : File → ℕ → Type 0
+HasNoRunTo f k = (n : ℕ) → n ≤ k → ¬ HasRun f n
 
 -- FILE, and what stands beside it, are the files of the subject; the certificate of a miter is any
 abbrev pub AreFilesOf : Subject → List ℕ → List ℕ → (List File → Type 0) → Type 0
@@ -52,28 +55,17 @@ ShowsGoal subject goal file other text =
 abbrev pub ShowsSimulated : FileSubject → List ℕ → List ℕ → Type 0
 ShowsSimulated own file text = IsOf file (λ f. (text ≡ simulated_line own) × FileShowsAlways own f)
 
--- what is so of FILE and OTHER after a command on them, or on FILE alone, printed a text
-abbrev pub Shows : Command → List ℕ → List ℕ → List ℕ → Type 0
-Shows (commands.File c) file other text =
+-- what is so of FILE and OTHER after a command about this circuit of FILE printed a text
+abbrev pub Shows : FileSubject → Command → List ℕ → List ℕ → List ℕ → Type 0
+Shows own (commands.File c) file other text =
     IsOf file (λ f. (given : Option (List ℕ)) × Answers c given f text)
-Shows (commands.Check subject goal base step) file other text =
-    ShowsGoal subject goal file other text
-Shows (commands.Simulated optimize) file other text = ShowsSimulated Own file text
-Shows c file other text = Unit {0}
+Shows own (commands.Check subject goal base step) file other text =
+    ShowsGoal (subject_of own subject) goal file other text
+Shows own (commands.Simulated optimize) file other text = ShowsSimulated own file text
+Shows own c file other text = Unit {0}
 
--- what is so of them where a command that checks asked about a justice property
-abbrev pub ShowsFair : Command → Justice → List ℕ → List ℕ → List ℕ → Type 0
-ShowsFair (commands.Check subject goal base step) a file other text =
-    ShowsGoal (subject_of (Some a) subject) goal file other text
-ShowsFair (commands.Simulated optimize) a file other text =
-    ShowsSimulated (made_for a) file text
-ShowsFair c a file other text = Unit {0}
-
--- so where a justice property may be asked about
 abbrev pub ShowsAsked : Asked → List ℕ → List ℕ → List ℕ → Type 0
-ShowsAsked c file other text =
-    MatchOption c.justice (Shows c.command file other text)
-    (λ a. IsTrue (not (prints c.command)) → ShowsFair c.command a file other text)
+ShowsAsked c file other text = Shows c.subject c.command file other text
 
 -- the one file of a command is FILE, or the two are FILE and OTHER
 abbrev pub AreNamed : ℕ → List (List ℕ) → Type 0

@@ -11,9 +11,11 @@ ghost use Rattle.aig_runs.specs.Queries.{IsSafeTo};
 ghost use Rattle.aig_runs.specs.Safety.{IsSafeAt};
 ghost use Rattle.aig_runs.specs.declared.window.Window.TheVariants.{Plain};
 ghost use Rattle.aig_edit_laws.specs.Fair.{HasFairLasso, HasFairRun};
+ghost use Rattle.aig_edit_laws.specs.Shown.{HasBadAt, HasOutput, HasRun};
+ghost use Rattle.aig_edit_laws.specs.declared.fairness.Fairness.TheVariants.{Alone, Justice};
 ghost use Rattle.aig_join.specs.Constraints.{AreEqualMachinesBy};
 ghost use Rattle.aig_check_commands.specs.Running.{IsShownLine};
-ghost use Rattle.aig_callers.specs.Instances.{AreOf, HasNoLassoTo, IsOf, IsPrinted};
+ghost use Rattle.aig_callers.specs.Instances.{AreOf, HasNoLassoTo, HasNoRunTo, IsOf, IsPrinted};
 ghost use Rattle.aig_callers.specs.Texts.{usual};
 
 use aig_base::{FromRead, MemoryError, Source};
@@ -124,25 +126,100 @@ pub fn printed_lines_are_true()
         (codes "--justice" ∷ codes "0" ∷ codes "refuted" ∷ codes "FILE" ∷ codes "4" ∷ codes "PROOF"
         ∷ []) file other text
         → IsOf file (λ f. (text ≡ codes "no fair lasso of j0 of 5 steps\n")
-        × (¬ HasFairLasso f 0 4)) }
+        × (¬ HasFairLasso f (Justice 0) 4)) }
     ensures fair_refuted_to { (file other text : List ℕ)
         → IsPrinted
         (codes "--justice" ∷ codes "0" ∷ codes "refuted" ∷ codes "FILE" ∷ codes "to" ∷ codes "4"
         ∷ codes "PROOF" ∷ []) file other text
         → IsOf file (λ f. (text ≡ codes "no fair lasso of j0 of at most 5 steps\n")
-        × HasNoLassoTo f 0 4) }
+        × HasNoLassoTo f (Justice 0) 4) }
     ensures fair_inductive { (file other text : List ℕ)
         → IsPrinted
         (codes "--justice" ∷ codes "0" ∷ codes "inductive" ∷ codes "FILE" ∷ codes "4"
         ∷ codes "PROOF" ∷ []) file other text
         → IsOf file (λ f. (text
         ≡ codes "no fair run of j0, if no fair lasso of at most 5 steps\n")
-        × (HasNoLassoTo f 0 4 → ¬ HasFairRun f 0)) }
+        × (HasNoLassoTo f (Justice 0) 4 → ¬ HasFairRun f (Justice 0))) }
     ensures fair_safe { (file other text : List ℕ)
         → IsPrinted
         (codes "--justice" ∷ codes "0" ∷ codes "safe" ∷ codes "FILE" ∷ codes "to" ∷ codes "1"
         ∷ codes "BASE" ∷ codes "STEP" ∷ []) file other text
-        → IsOf file (λ f. (text ≡ codes "no fair run of j0\n") × (¬ HasFairRun f 0)) }
+        → IsOf file (λ f. (text ≡ codes "no fair run of j0\n") × (¬ HasFairRun f (Justice 0))) }
+    ensures endless_refuted { (file other text : List ℕ)
+        → IsPrinted
+        (codes "--endless" ∷ codes "refuted" ∷ codes "FILE" ∷ codes "4" ∷ codes "PROOF" ∷ [])
+        file other text
+        → IsOf file (λ f. (text
+        ≡ codes "no lasso of 5 steps meets the constraints and fairness\n")
+        × (¬ HasFairLasso f Alone 4)) }
+    ensures endless_refuted_to { (file other text : List ℕ)
+        → IsPrinted
+        (codes "--endless" ∷ codes "refuted" ∷ codes "FILE" ∷ codes "to" ∷ codes "4"
+        ∷ codes "PROOF" ∷ []) file other text
+        → IsOf file (λ f. (text
+        ≡ codes "no lasso of at most 5 steps meets the constraints and fairness\n")
+        × HasNoLassoTo f Alone 4) }
+    ensures endless_inductive { (file other text : List ℕ)
+        → IsPrinted
+        (codes "--endless" ∷ codes "inductive" ∷ codes "FILE" ∷ codes "4" ∷ codes "PROOF" ∷ [])
+        file other text
+        → IsOf file (λ f. (text
+        ≡ codes "no run without end meets the constraints and fairness, if no lasso of at most 5 steps does\n")
+        × (HasNoLassoTo f Alone 4 → ¬ HasFairRun f Alone)) }
+    ensures endless_safe { (file other text : List ℕ)
+        → IsPrinted
+        (codes "--endless" ∷ codes "safe" ∷ codes "FILE" ∷ codes "to" ∷ codes "1" ∷ codes "BASE"
+        ∷ codes "STEP" ∷ []) file other text
+        → IsOf file (λ f. (text ≡ codes "no run without end meets the constraints and fairness\n")
+        × (¬ HasFairRun f Alone)) }
+    ensures endless_certified { (file other text : List ℕ)
+        → IsPrinted
+        (codes "--endless" ∷ codes "certified" ∷ codes "FILE" ∷ codes "OTHER" ∷ codes "BASE"
+        ∷ codes "STEP" ∷ []) file other text
+        → IsOf file (λ f. (text ≡ codes "no run without end meets the constraints and fairness\n")
+        × (¬ HasFairRun f Alone)) }
+    ensures property_refuted { (file other text : List ℕ)
+        → IsPrinted
+        (codes "--property" ∷ codes "1" ∷ codes "refuted" ∷ codes "FILE" ∷ codes "4"
+        ∷ codes "PROOF" ∷ []) file other text
+        → IsOf file (λ f. (text ≡ codes "b1: no bad state at step 4\n") × (¬ HasBadAt f 1 4)) }
+    ensures property_simulated { (file other text : List ℕ)
+        → IsPrinted
+        (codes "--property" ∷ codes "1" ∷ codes "certified" ∷ codes "FILE" ∷ codes "OTHER"
+        ∷ codes "RESET" ∷ codes "TRANSITION" ∷ codes "PROPERTY" ∷ codes "BASE" ∷ codes "STEP" ∷ [])
+        file other text
+        → IsOf file (λ f. (text ≡ codes "b1: no bad state at any step\n")
+        × ((k : ℕ) → ¬ HasBadAt f 1 k)) }
+    ensures possible_refuted { (file other text : List ℕ)
+        → IsPrinted
+        (codes "--possible" ∷ codes "refuted" ∷ codes "FILE" ∷ codes "4" ∷ codes "PROOF" ∷ [])
+        file other text
+        → IsOf file (λ f. (text ≡ codes "no run of more than 4 steps meets the constraints\n")
+        × (¬ HasRun f 4)) }
+    ensures possible_refuted_to { (file other text : List ℕ)
+        → IsPrinted
+        (codes "--possible" ∷ codes "refuted" ∷ codes "FILE" ∷ codes "to" ∷ codes "4"
+        ∷ codes "PROOF" ∷ []) file other text
+        → IsOf file (λ f. (text ≡ codes "no run meets the constraints\n") × HasNoRunTo f 4) }
+    ensures possible_inductive { (file other text : List ℕ)
+        → IsPrinted
+        (codes "--possible" ∷ codes "inductive" ∷ codes "FILE" ∷ codes "4" ∷ codes "PROOF" ∷ [])
+        file other text
+        → IsOf file (λ f. (text
+        ≡ codes "no run meets the constraints, if none of at most 5 steps does\n")
+        × (HasNoRunTo f 4 → (k : ℕ) → ¬ HasRun f k)) }
+    ensures possible_safe { (file other text : List ℕ)
+        → IsPrinted
+        (codes "--possible" ∷ codes "safe" ∷ codes "FILE" ∷ codes "to" ∷ codes "1" ∷ codes "BASE"
+        ∷ codes "STEP" ∷ []) file other text
+        → IsOf file (λ f. (text ≡ codes "no run meets the constraints\n")
+        × ((k : ℕ) → ¬ HasRun f k)) }
+    ensures outputs_safe { (file other text : List ℕ)
+        → IsPrinted
+        (codes "--outputs" ∷ codes "safe" ∷ codes "FILE" ∷ codes "to" ∷ codes "1" ∷ codes "BASE"
+        ∷ codes "STEP" ∷ []) file other text
+        → IsOf file (λ f. (text ≡ codes "no output is true at any step\n")
+        × ((k : ℕ) → ¬ HasOutput f k)) }
 {}
 
 /// The words `compress FILE`.

@@ -17,9 +17,10 @@ use Rattle.aig_reader.specs.declared.error.ReadError.TheVariants as read
 use Rattle.aig_reader.specs.declared.error.Section.TheVariants as section
 use Rattle.aig_refutation.specs.declared.error.RefutationError.TheVariants as refutation
 use Rattle.aig_runs.specs.declared.window.Window.TheVariants.{Distinct, Plain}
-use Rattle.aig_simulated.specs.declared.error.ConditionError.TheVariants as conditions
-use Rattle.aig_simulated.specs.declared.error.SimulationError.TheVariants as simulation
+use Rattle.aig_witness_circuit_checks.specs.declared.error.ConditionError.TheVariants as conditions
+use Rattle.aig_witness_circuit_checks.specs.declared.error.SimulationError.TheVariants as simulation
 use Rattle.aig_subjects.specs.declared.error.SubjectError.TheVariants as subject_errors
+use Rattle.aig_edit_laws.specs.declared.fairness.Fairness.TheVariants.{Justice}
 use Rattle.aig_subjects.specs.declared.subject.FileSubject.TheVariants.{Live, Own}
 use Rattle.aig_subjects.specs.declared.subject.Subject.{Subject}
 use Rattle.aig_subjects.specs.declared.subject.Subject.TheVariants as subjects
@@ -63,7 +64,8 @@ no_flag_of_base is = let status : 4137 ≡ 2089 = is in omega (arith, status)
 
 -- the window of what is made of a file is refused as one of the file
 no_window_of_file :
-    goal_status (subjects.File (Live 0)) (goals.Safe 3 Plain) (goal_faults.Plan plans.NoBads)
+    goal_status (subjects.File (Live (Justice 0))) (goals.Safe 3 Plain)
+    (goal_faults.Plan plans.NoBads)
     ≢ goal_status (subjects.File Own) (goals.Safe 3 Plain) (goal_faults.Plan plans.NoBads)
 no_window_of_file is = let status : 1030 ≡ 6 = is in omega (arith, status)
 

@@ -12,7 +12,7 @@ pub use Rattle.aig_giving.specs.Given.{IsGiven}
 pub use Rattle.aig_giving.specs.Numbers.{clause_numbers, dimacs_number}
 pub use Rattle.aig_giving.specs.Statuses.{read_status}
 pub use Rattle.aig_giving.specs.declared.status.TheConstants.{DONE, SMALL}
-pub use Rattle.aig_simulation.specs.declared.condition.Condition.TheVariants.{Base, Step}
+pub use Rattle.aig_witness_circuits.specs.declared.condition.Condition.TheVariants.{Base, Step}
 pub use Rattle.aig_tool_commands.specs.declared.tool.TheConstants.{LIMIT}
 pub use Rattle.aig_unroll.specs.Places.{place_at}
 pub use Rattle.std.proofs.Common.{Bor}

@@ -16,6 +16,7 @@ use Rattle.aig_check_commands.specs.declared.error.CheckError.{CheckError}
 use Rattle.aig_tool_commands.specs.Running as tool
 use Rattle.aig_tool_commands.specs.declared.command.Command.{Command}
 use Rattle.aig_tool_commands.specs.declared.tool.ToolError.{ToolError}
+use Rattle.aig_edit_laws.specs.declared.fairness.Fairness.TheVariants.{Justice}
 use Rattle.aig_edits.specs.Edits.{IsEditOwn, PrintsEdit, ReadsFile, edit_verdict}
 use Rattle.aig_edits.specs.Info.{PrintsInfo}
 use Rattle.aig_edits.specs.Joints.{IsOwn, PrintsJoint, first_verdict, second_verdict}
@@ -119,10 +120,10 @@ abbrev pub MakesInfo : ℕ → List ℕ → Result Unit EditError → Writer →
 MakesInfo limit = Makes limit (PrintsInfo held write_failed)
 
 abbrev pub MakesLive : ℕ → ℕ → List ℕ → Result Unit EditError → Writer → Writer → Type 0
-MakesLive limit j = Makes limit (PrintsLive held write_failed j)
+MakesLive limit j = Makes limit (PrintsLive held write_failed (Justice j))
 
 abbrev pub MakesRounds : ℕ → ℕ → ℕ → List ℕ → Result Unit EditError → Writer → Writer → Type 0
-MakesRounds limit j count = Makes limit (PrintsRounds held write_failed j count)
+MakesRounds limit j count = Makes limit (PrintsRounds held write_failed (Justice j) count)
 
 -- so of two files
 abbrev pub MakesJoint : ℕ → Pairing → List ℕ → List ℕ → Result Unit PairError → Writer → Writer

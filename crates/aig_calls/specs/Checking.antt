@@ -5,9 +5,9 @@ use Rattle.std.specs.Prelude.{◌≡◌, ℕ, Bool, false, List, Some, Result}
 use Rattle.aig_answers.specs.Goals.{ChecksGoal, last_step}
 use Rattle.aig_answers.specs.declared.goals.error.GoalFault.{GoalFault}
 use Rattle.aig_answers.specs.declared.goals.goal.Goal.{Goal}
-use Rattle.aig_simulated.specs.Simulated.{Certifies, IsOwn, Proofs, file_error, proof_for, refusal_of}
-use Rattle.aig_simulated.specs.Witnesses.{ReadsWitness}
-use Rattle.aig_simulated.specs.declared.error.SimulationError.{SimulationError}
+use Rattle.aig_witness_circuit_checks.specs.Simulated.{Certifies, IsOwn, Proofs, file_error, proof_for, refusal_of}
+use Rattle.aig_witness_circuit_checks.specs.Witnesses.{ReadsWitness}
+use Rattle.aig_witness_circuit_checks.specs.declared.error.SimulationError.{SimulationError}
 use Rattle.aig_subjects.specs.declared.subject.Subject.{Subject}
 use Rattle.aig_tool_commands.specs.declared.tool.TheConstants.{LIMIT}
 use Rattle.aig_calls.specs.Calls.{AtStep}

@@ -15,15 +15,15 @@ use Rattle.aig_answers.specs.declared.plans.errors.PlanError.{PlanError}
 use Rattle.aig_answers.specs.declared.plans.errors.PlanError.TheVariants as plans
 use Rattle.aig_answers.specs.declared.plans.errors.Why.{Why}
 use Rattle.aig_answers.specs.declared.plans.errors.Why.TheVariants as whys
-use Rattle.aig_simulated.specs.declared.error.ConditionError.{ConditionError}
-use Rattle.aig_simulated.specs.declared.error.ConditionError.TheVariants as conditions
-use Rattle.aig_simulated.specs.declared.error.SimulationError.{SimulationError}
-use Rattle.aig_simulated.specs.declared.error.SimulationError.TheVariants as simulation
-use Rattle.aig_simulation.specs.declared.condition.Condition.{Condition}
-use Rattle.aig_simulation.specs.declared.condition.Condition.TheVariants.{Reset, Transition, Property, Base, Step}
-use Rattle.aig_simulation.specs.declared.error.QuestionError.TheVariants as asking
-use Rattle.aig_simulation.specs.declared.sharing.error.SharingError.{SharingError}
-use Rattle.aig_simulation.specs.declared.sharing.error.SharingError.TheVariants as sharing
+use Rattle.aig_witness_circuit_checks.specs.declared.error.ConditionError.{ConditionError}
+use Rattle.aig_witness_circuit_checks.specs.declared.error.ConditionError.TheVariants as conditions
+use Rattle.aig_witness_circuit_checks.specs.declared.error.SimulationError.{SimulationError}
+use Rattle.aig_witness_circuit_checks.specs.declared.error.SimulationError.TheVariants as simulation
+use Rattle.aig_witness_circuits.specs.declared.condition.Condition.{Condition}
+use Rattle.aig_witness_circuits.specs.declared.condition.Condition.TheVariants.{Reset, Transition, Property, Base, Step}
+use Rattle.aig_witness_circuits.specs.declared.error.QuestionError.TheVariants as asking
+use Rattle.aig_witness_circuits.specs.declared.sharing.error.SharingError.{SharingError}
+use Rattle.aig_witness_circuits.specs.declared.sharing.error.SharingError.TheVariants as sharing
 use Rattle.aig_check_commands.specs.declared.error.CheckError.{CheckError}
 use Rattle.aig_check_commands.specs.declared.error.CheckError.TheVariants as checks
 use Rattle.aig_tool_commands.specs.declared.tool.ToolError.{ToolError}

@@ -1,7 +1,8 @@
 //! Calls that check proofs about a file.
 
-ghost use Rattle.std.specs.Prelude.{◌∷◌, []};
+ghost use Rattle.std.specs.Prelude.{◌≡◌, ◌∷◌, []};
 ghost use Rattle.aig_answers.specs.declared.goals.goal.Goal.TheVariants as goals;
+ghost use Rattle.aig_edit_laws.specs.declared.fairness.Fairness.TheVariants.{Justice};
 ghost use Rattle.aig_subjects.specs.declared.subject.FileSubject.TheVariants.{Live, Own};
 ghost use Rattle.aig_subjects.specs.declared.subject.Subject.TheVariants as subjects;
 ghost use Rattle.aig_calls.specs.Calls.{form_of};
@@ -10,6 +11,7 @@ ghost use Rattle.aig_calls.specs.Checking.{ChecksBytes};
 use crate::goals::{check_proof, check_proofs};
 use crate::steps::window_form;
 use aig_answers::Goal;
+use aig_edits::Fairness;
 use aig_subjects::FileSubject;
 use std::alloc::Global;
 
@@ -93,6 +95,15 @@ pub extern "C" fn aig_check_safe(
     )
 }
 
+/// The live circuit of a file's justice property.
+fn live_subject(j: usize) -> FileSubject
+    ensures { result ≡ Live (Justice j) }
+{
+    FileSubject::Live {
+        fairness: Fairness::Justice(j),
+    }
+}
+
 /// Checks a proof, in LRAT or DRAT, that the query of the live circuit of a file's justice property `j`, from 0 on, for step `k` can't
 /// be satisfied: then the property has no fair lasso of `k + 1` steps.
 #[unsafe(no_mangle)]
@@ -104,18 +115,11 @@ pub extern "C" fn aig_check_no_lasso(
     optimize: bool,
     proof: &[u8],
 ) -> u32
-    ensures { ChecksBytes (subjects.File (Live j)) (goals.Refuted k) optimize optimize
+    ensures { ChecksBytes (subjects.File (Live (Justice j))) (goals.Refuted k) optimize optimize
         (file.now ∷ []) (proof.now ∷ []) result }
 {
-    let live = FileSubject::Live { property: j };
-    check_proof(
-        alloc,
-        live,
-        Goal::Refuted(k as usize),
-        optimize,
-        file,
-        proof,
-    )
+    let goal = Goal::Refuted(k as usize);
+    check_proof(alloc, live_subject(j), goal, optimize, file, proof)
 }
 
 /// Checks a proof, in LRAT or DRAT, that the clauses of the question of the live circuit of a file's justice property `j`, from 0 on,
@@ -130,18 +134,11 @@ pub extern "C" fn aig_check_no_lasso_to(
     optimize: bool,
     proof: &[u8],
 ) -> u32
-    ensures { ChecksBytes (subjects.File (Live j)) (goals.RefutedTo k) optimize optimize
+    ensures { ChecksBytes (subjects.File (Live (Justice j))) (goals.RefutedTo k) optimize optimize
         (file.now ∷ []) (proof.now ∷ []) result }
 {
-    let live = FileSubject::Live { property: j };
-    check_proof(
-        alloc,
-        live,
-        Goal::RefutedTo(k as usize),
-        optimize,
-        file,
-        proof,
-    )
+    let goal = Goal::RefutedTo(k as usize);
+    check_proof(alloc, live_subject(j), goal, optimize, file, proof)
 }
 
 /// Checks proofs, in LRAT or DRAT, that a file's justice property `j`, from 0 on, has no fair run: those that `aig_check_safe` takes of
@@ -158,12 +155,12 @@ pub extern "C" fn aig_check_no_fair_run(
     step_optimize: bool,
     step: &[u8],
 ) -> u32
-    ensures { ChecksBytes (subjects.File (Live j)) (goals.Safe k (form_of distinct)) base_optimize
-        step_optimize (file.now ∷ []) (base.now ∷ step.now ∷ []) result }
+    ensures { ChecksBytes (subjects.File (Live (Justice j))) (goals.Safe k (form_of distinct))
+        base_optimize step_optimize (file.now ∷ []) (base.now ∷ step.now ∷ []) result }
 {
     check_proofs(
         alloc,
-        FileSubject::Live { property: j },
+        live_subject(j),
         Goal::Safe(k as usize, window_form(distinct)),
         base_optimize,
         step_optimize,

@@ -5,7 +5,7 @@ ghost use Rattle.aig_calls.specs.Statuses.{edit_status};
 
 use crate::buffer::put;
 use aig_base::{FromRead, ToWrite};
-use aig_edits::{print_live, print_rounds};
+use aig_edits::{Fairness, print_live, print_rounds};
 use aig_tool_commands::LIMIT;
 use std::alloc::Global;
 
@@ -24,7 +24,7 @@ pub extern "C" fn aig_live(
 {
     let mut source = FromRead::new(file);
     let mut sink = ToWrite::new(Vec::new(alloc));
-    let done = print_live(alloc, j, &mut source, LIMIT, &mut sink);
+    let done = print_live(alloc, Fairness::Justice(j), &mut source, LIMIT, &mut sink);
     put(done, sink, out, needed)
 }
 
@@ -45,6 +45,13 @@ pub extern "C" fn aig_rounds(
 {
     let mut source = FromRead::new(file);
     let mut sink = ToWrite::new(Vec::new(alloc));
-    let done = print_rounds(alloc, j, count, &mut source, LIMIT, &mut sink);
+    let done = print_rounds(
+        alloc,
+        Fairness::Justice(j),
+        count,
+        &mut source,
+        LIMIT,
+        &mut sink,
+    );
     put(done, sink, out, needed)
 }

@@ -3,7 +3,7 @@
 ghost use Rattle.std.specs.Prelude.{◌∷◌, []};
 ghost use Rattle.aig_answers.specs.declared.goals.goal.Goal.TheVariants as goals;
 ghost use Rattle.aig_runs.specs.declared.window.Window.TheVariants.{Plain};
-ghost use Rattle.aig_simulated.specs.Simulated.{proofs_of};
+ghost use Rattle.aig_witness_circuit_checks.specs.Simulated.{proofs_of};
 ghost use Rattle.aig_subjects.specs.declared.subject.FileSubject.TheVariants.{Own};
 ghost use Rattle.aig_subjects.specs.declared.subject.Subject.TheVariants as subjects;
 ghost use Rattle.aig_calls.specs.Calls.{form_of};
@@ -15,9 +15,9 @@ use crate::status::status_of;
 use crate::steps::window_form;
 use aig_answers::{Goal, Window};
 use aig_command_line::InMemory;
-use aig_simulated::check_simulated;
 use aig_subjects::{FileSubject, Subject};
 use aig_tool_commands::LIMIT;
+use aig_witness_circuit_checks::check_simulated;
 use std::alloc::Global;
 
 /// Checks that a certificate, a witness circuit, shows that no bad state of a file's machine is ever reached: by proofs, in LRAT or

@@ -12,11 +12,11 @@ use aig_edits::{EditError, PairError};
 use aig_encode::EncodeError;
 use aig_giving::{DONE, HEADER, MEMORY, TOO_MANY, UNWRITABLE, of_read};
 use aig_refutation::RefutationError;
-use aig_simulated::{Condition, ConditionError, SimulationError};
-use aig_simulation::{QuestionError, SharingError};
 use aig_subjects::{FileSubject, Subject, SubjectError};
 use aig_tool_commands::ToolError;
 use aig_witness::{ClaimError, LassoFault, ShowError, SolutionError, WitnessError, WitnessFault};
+use aig_witness_circuit_checks::{Condition, ConditionError, SimulationError};
+use aig_witness_circuits::{QuestionError, SharingError};
 
 /// The number of a step is 2^32 or more.
 pub(crate) const MANY_STEPS: u32 = 4;

@@ -1,5 +1,5 @@
 -- Words give one command.
-use Rattle.aig_check_commands.proofs.Words.{◌⊎◌, Bool, true, false, length, length-append, cond, map, map-append, inl, inr, ◌++◌, Global, ◌≡◌, ◌↔◌, ℕ, List, ◌∷◌, [], Some, refl, sym, ap, ◌∙◌, arith, same_Some, suc, true≢false, Contains, IfNone, Result, slice_index, slice_index_or, IsNumber, value_of, ended, Arguments, GivesArguments, further_of, IsLimited, one_constraints, Constraints, OfBoth, ByName, ByOrder, Alike, Apart, Action, Asked, Command, WitnessAction, condition_name, Condition, Justice, AreJustice, IsNumbered, is_asked, AreCommand, FitNone, Give, IsAlone, IsCall, IsOf, IsOnWitness, IsWhole, beside_of, command_of, form_of, name_of, paths_of, raw_alone, raw_word, under, witness_form, witness_name}
+use Rattle.aig_check_commands.proofs.Words.{◌⊎◌, Bool, true, false, length, length-append, cond, map, map-append, inl, inr, ◌++◌, Global, ◌≡◌, ◌≢◌, ◌<◌, ◌↔◌, ℕ, List, ◌∷◌, [], Some, refl, sym, ap, ◌∙◌, arith, same_Some, suc, true≢false, Contains, IfNone, IfSome, Result, slice_index, slice_index_or, IsNumber, value_of, ended, Arguments, GivesArguments, further_of, IsLimited, one_constraints, Constraints, OfBoth, ByName, ByOrder, Alike, Apart, Action, Asked, Command, WitnessAction, condition_name, Condition, FileSubject, AskForNone, GiveFairness, GiveNumbers, GiveSubject, IsNumberFirst, IsNumbered, fair_subject, fairness_word, is_asked, is_fair, subject_word, AreCommand, FitNone, Give, IsAlone, IsCall, IsOf, IsOnWitness, IsWhole, beside_of, command_of, form_of, name_of, paths_of, raw_alone, raw_word, under, witness_form, witness_name}
 use Rattle.std.specs.Prelude.{All, Err, None, Ok, Option, String, codes, string_bytes}
 use Rattle.aig_command_line.specs.declared.help.Help.{Help}
 use Rattle.aig_command_line.specs.declared.help.Help.TheVariants.{Usage, Version}
@@ -9,13 +9,16 @@ use Rattle.aig_command_line.specs.declared.arguments.ArgumentForm.{ArgumentForm}
 use Rattle.aig_command_line.specs.declared.arguments.Given.{Given}
 use Rattle.aig_command_line.proofs.Apart as apart
 use Rattle.aig_command_line.proofs.Limits.{asked_alone, one_limit}
+use Rattle.aig_edit_laws.specs.declared.fairness.Fairness.{Fairness}
+use Rattle.aig_edit_laws.specs.declared.fairness.Fairness.TheVariants.{Alone, Justice}
 use Rattle.aig_edits.specs.Words.{AreConstraints}
 use Rattle.aig_check_commands.specs.declared.command.Action.TheVariants as actions
 use Rattle.aig_check_commands.specs.declared.command.Command.TheVariants as commands
 use Rattle.aig_check_commands.specs.declared.command.TheConstants.Action.{ALL}
 use Rattle.aig_check_commands.specs.declared.command.TheConstants.WitnessAction as on_witness
 use Rattle.aig_check_commands.specs.declared.command.WitnessAction.TheVariants as witness
-use Rattle.aig_simulation.specs.declared.condition.Condition.TheVariants as conditions
+use Rattle.aig_witness_circuits.specs.declared.condition.Condition.TheVariants as conditions
+use Rattle.aig_subjects.specs.declared.subject.FileSubject.TheVariants.{Live, Outputs, Own, Possible, Property, Rounds}
 
 -- where a command stands in a list, by a test that computes
 abbrev place_in : {A : Type 0} → (A → List ℕ) → (A → ArgumentForm) → A → List A → ℕ
@@ -50,7 +53,16 @@ among a = (place_in name_of form_of a ALL, omega arith, refl)
 pub each : (P : Action → Type 0) → All P ALL → (a : Action) → P a
 each = apart.each name_of form_of ALL refl among
 
--- ---- the justice property
+-- ---- the circuit of FILE
+
+-- a number comes first, and no other
+one_first : (words : List (List ℕ)) (m n : ℕ) (r s : List (List ℕ)) → IsNumberFirst m words r
+    → IsNumberFirst n words s → (m ≡ n) × (r ≡ s)
+one_first words m n r s g h =
+    let are = sym g.2 ∙ h.2 in
+    let word : g.0 ≡ h.0 = cc in
+    let rest : r ≡ s = cc in
+    (sym g.1.value ∙ ap value_of word ∙ h.1.value, rest)
 
 -- words give one number after a word, or none
 one_number : (name : List ℕ) (words : List (List ℕ)) (m n : Option ℕ) (r s : List (List ℕ))
@@ -64,13 +76,6 @@ one_number name words (Some m) None r s g h = absurd (h.0 _ g.1)
 one_number name words None (Some n) r s g h = absurd (g.0 _ h.1)
 one_number name words None None r s g h = (refl, g.1 ∙ sym h.1)
 
-same_parts : (a b : Justice) → a.property ≡ b.property → a.rounds ≡ b.rounds → a ≡ b
-same_parts a b property rounds =
-    ap (λ n. the n a.rounds) property ∙ ap (λ o. the b.property o) rounds
-  where
-    the : ℕ → Option ℕ → Justice
-    the n o = record { property = n; rounds = o }
-
 -- a word with no number after it
 pub no_numbered : (name : List ℕ) (words rest : List (List ℕ)) → words ≡ name ∷ rest
     → ((k : ℕ) (word : List ℕ) (more : List (List ℕ)) → IsNumber k word → ¬ (rest ≡ word ∷ more))
@@ -81,41 +86,202 @@ no_numbered name words rest are none (Some n) more g =
     none n g.0 more g.2 after
 no_numbered name words rest are none None more g = g.0 rest are
 
--- words that give no property
-pub no_property : (words : List (List ℕ))
-    → ((n : Option ℕ) (rest : List (List ℕ)) → ¬ IsNumbered (codes "--justice") n words rest)
-    → (a : Option Justice) (rest : List (List ℕ)) → ¬ AreJustice a words rest
-no_property words none (Some a) rest g = none (Some a.property) g.0 g.1
-no_property words none None rest g = none None rest g
+-- no number comes first
+abbrev HasNoNumber : List (List ℕ) → Type 0
+HasNoNumber words = (k : ℕ) (word : List ℕ) (rest : List (List ℕ)) → IsNumber k word
+    → ¬ (words ≡ word ∷ rest)
 
--- words that give one, and no rounds rightly
-pub no_rounds : (words after : List (List ℕ)) (n : ℕ)
-    → IsNumbered (codes "--justice") (Some n) words after
+-- the word of fair runs is no other
+unlike : (fairness : Fairness) (own : FileSubject) (ws xs : List (List ℕ)) → is_fair own ≡ false
+    → ¬ (fairness_word fairness ∷ ws ≡ subject_word own ∷ xs)
+unlike fairness (Live other) ws xs plain are = true≢false plain
+unlike fairness (Rounds other rounds) ws xs plain are = true≢false plain
+unlike (Justice property) own ws xs plain are =
+    let letter = ap (λ (words : List (List ℕ)). slice_index (slice_index_or words 0 []) 7) are in
+    omega (arith, letter)
+unlike Alone own ws xs plain are =
+    let letter = ap (λ (words : List (List ℕ)). slice_index (slice_index_or words 0 []) 7) are in
+    omega (arith, letter)
+
+-- where no number comes first, a word gives no bad literal
+pub no_property : (words : List (List ℕ)) → HasNoNumber words → (own : FileSubject)
+    (rest : List (List ℕ)) → subject_word own ≡ codes "--property" → ¬ GiveNumbers own words rest
+no_property words none (Property number) rest is g = none number g.0 rest g.1 g.2
+no_property words none (Live fairness) rest is g =
+    unlike fairness (Property 0) [] [] refl (ap (λ w. w ∷ []) is)
+no_property words none (Rounds fairness rounds) rest is g =
+    unlike fairness (Property 0) [] [] refl (ap (λ w. w ∷ []) is)
+no_property words none own rest is g =
+    let letter = ap (λ (word : List ℕ). slice_index word 7) is in omega (arith, letter)
+
+-- nor a justice property
+pub no_justice : (words : List (List ℕ)) → HasNoNumber words → (own : FileSubject)
+    (rest : List (List ℕ)) → subject_word own ≡ codes "--justice" → ¬ GiveNumbers own words rest
+no_justice words none (Live (Justice property)) rest is g = none property g.1.0 g.0 g.1.1 g.1.2
+no_justice words none (Rounds (Justice property) rounds) rest is g =
+    none property g.1.0 g.0 g.1.1 g.1.2
+no_justice words none own rest is g =
+    let letter = ap (λ (word : List ℕ). slice_index word 7) is in omega (arith, letter)
+
+-- words give one fairness
+one_fairness : (d e : Fairness) (ws xs r s : List (List ℕ))
+    → fairness_word d ∷ ws ≡ fairness_word e ∷ xs → GiveFairness d ws r → GiveFairness e xs s
+    → (d ≡ e) × (r ≡ s)
+one_fairness (Justice m) (Justice n) ws xs r s are g h =
+    let tail : ws ≡ xs = cc in
+    let same = one_first xs m n r s (rw tail at g) h in
+    (ap Justice same.0, same.1)
+one_fairness Alone Alone ws xs r s are g h =
+    let tail : ws ≡ xs = cc in (refl, g ∙ tail ∙ sym h)
+one_fairness d e ws xs r s are g h =
+    let letter = ap (λ (words : List (List ℕ)). slice_index (slice_index_or words 0 []) 7) are in
+    absurd (omega (arith, letter))
+
+-- where no number comes after the word of rounds, words give no circuit of fair runs
+pub no_rounds : (fairness : Fairness) (words after : List (List ℕ))
+    → GiveFairness fairness words after
     → ((n : Option ℕ) (rest : List (List ℕ)) → ¬ IsNumbered (codes "--rounds") n after rest)
-    → (a : Option Justice) (rest : List (List ℕ)) → ¬ AreJustice a words rest
-no_rounds words after n given none (Some a) rest g =
-    let one = one_number (codes "--justice") words (Some a.property) (Some n) g.0 after g.1 given in
-    none a.rounds rest (rw one.1 at g.2)
-no_rounds words after n given none None rest g = g.0 _ given.1
+    → (own : FileSubject) (rest : List (List ℕ)) → subject_word own ≡ fairness_word fairness
+    → ¬ GiveNumbers own words rest
+no_rounds fairness words after given none (Live other) rest is g =
+    let same = one_fairness other fairness words words g.0 after (ap (λ w. w ∷ words) is) g.1
+    given in
+    none None rest (rw same.1 at g.2)
+no_rounds fairness words after given none (Rounds other rounds) rest is g =
+    let same = one_fairness other fairness words words g.0 after (ap (λ w. w ∷ words) is) g.1
+    given in
+    none (Some rounds) rest (rw same.1 at g.2)
+no_rounds (Justice property) words after given none own rest is g =
+    let letter = ap (λ (word : List ℕ). slice_index word 7) is in omega (arith, letter)
+no_rounds Alone words after given none own rest is g =
+    let letter = ap (λ (word : List ℕ). slice_index word 7) is in omega (arith, letter)
 
--- words give one justice property, or none
-pub one_justice : (words : List (List ℕ)) (a b : Option Justice) (r s : List (List ℕ))
-    → AreJustice a words r → AreJustice b words s → (a ≡ b) × (r ≡ s)
-one_justice words (Some a) (Some b) r s g h =
-    let first = one_number (codes "--justice") words (Some a.property) (Some b.property) g.0 h.0 g.1
-    h.1 in
-    let second = one_number (codes "--rounds") h.0 a.rounds b.rounds r s (rw first.1 at g.2) h.2 in
-    (ap Some (same_parts a b (same_Some _ _ first.0) second.0), second.1)
-one_justice words (Some a) None r s g h = absurd (h.0 _ g.1.1)
-one_justice words None (Some b) r s g h = absurd (g.0 _ h.1.1)
-one_justice words None None r s g h = (refl, g.1 ∙ sym h.1)
+-- words that give a number of rounds, or none, give such a circuit
+pub gives_rounds : (fairness : Fairness) (rounds : Option ℕ) (words after rest : List (List ℕ))
+    → GiveFairness fairness words after → IsNumbered (codes "--rounds") rounds after rest
+    → GiveNumbers (fair_subject fairness rounds) words rest
+gives_rounds fairness None words after rest given is = (after, given, is)
+gives_rounds fairness (Some rounds) words after rest given is = (after, given, is)
 
--- words that do not begin with `--justice` give none
-pub no_justice : (words : List (List ℕ)) (a : Option Justice) (rest : List (List ℕ))
-    → ((more : List (List ℕ)) → ¬ (words ≡ codes "--justice" ∷ more)) → AreJustice a words rest
-    → (a ≡ None) × (rest ≡ words)
-no_justice words None rest other g = (refl, g.1)
-no_justice words (Some a) rest other g = absurd (other _ g.1.1)
+-- and its word is that of the fairness
+pub fair_word : (fairness : Fairness) (rounds : Option ℕ)
+    → subject_word (fair_subject fairness rounds) ≡ fairness_word fairness
+fair_word fairness None = refl
+fair_word fairness (Some rounds) = refl
+
+module _ (asked : FileSubject) (other : asked ≢ Own) (named : 0 < length (subject_word asked))
+    (words more : List (List ℕ)) (are : words ≡ subject_word asked ∷ more) where
+  -- words that ask for a circuit give one of that word, by the words behind it
+  behind : (own : FileSubject) (rest : List (List ℕ)) → GiveSubject own words rest
+      → (subject_word own ≡ subject_word asked) × GiveNumbers own more rest
+  behind Own rest g = absurd (g.0 asked more other are)
+  behind own rest g =
+      let same = sym g.1 ∙ are in
+      let word : subject_word own ≡ subject_word asked = cc in
+      let after : g.0 ≡ more = cc in
+      (word, rw after at g.2)
+
+  given : (own : FileSubject) (rest : List (List ℕ)) → subject_word own ≡ subject_word asked
+      → GiveNumbers own more rest → GiveSubject own words rest
+  given Own rest word g = let count = ap length word in absurd (omega (arith, count, named))
+  given own rest word g = (more, are ∙ ap (λ w. w ∷ more) (sym word), g)
+
+  -- so what these give is given, and where they give none, none is
+  module _ {X : Type 0} (own_of : X → FileSubject) (rest_of : X → List (List ℕ)) where
+    pub all_given : (o : Option X)
+        → IfSome o (λ x. subject_word (own_of x) ≡ subject_word asked)
+        → IfSome o (λ x. GiveNumbers (own_of x) more (rest_of x))
+        → IfSome o (λ x. GiveSubject (own_of x) words (rest_of x))
+    all_given (Some x) word g = given (own_of x) (rest_of x) word g
+    all_given None word g = tt
+
+  pub none_given : {X : Type 0} (o : Option X)
+      → IfNone o ((own : FileSubject) (rest : List (List ℕ))
+      → subject_word own ≡ subject_word asked → ¬ GiveNumbers own more rest)
+      → IfNone o ((own : FileSubject) (rest : List (List ℕ)) → ¬ GiveSubject own words rest)
+  none_given (Some x) none = tt
+  none_given None none = λ own rest g. let is = behind own rest g in none own rest is.0 is.1
+
+-- words give one circuit of FILE
+pub one_subject : (words : List (List ℕ)) (own other : FileSubject) (r s : List (List ℕ))
+    → GiveSubject own words r → GiveSubject other words s → (own ≡ other) × (r ≡ s)
+one_subject words own other r s = by own other
+  where
+    after : (asked : FileSubject) (more others : List (List ℕ)) → words ≡ subject_word asked ∷ more
+        → words ≡ subject_word asked ∷ others → more ≡ others
+    after asked more others first second =
+        let are : subject_word asked ∷ more ≡ subject_word asked ∷ others = sym first ∙ second in cc
+
+    numbers : (d e : Fairness) (o p : Option ℕ) (ws xs more others : List (List ℕ))
+        → fairness_word d ∷ ws ≡ fairness_word e ∷ xs
+        → GiveFairness d ws more → IsNumbered (codes "--rounds") o more r
+        → GiveFairness e xs others → IsNumbered (codes "--rounds") p others s
+        → (d ≡ e) × (o ≡ p) × (r ≡ s)
+    numbers d e o p ws xs more others are g x h y =
+        let first = one_fairness d e ws xs more others are g h in
+        let second = one_number (codes "--rounds") others o p r s (rw first.1 at x) y in
+        (first.0, second.0, second.1)
+
+    by : (own other : FileSubject) → GiveSubject own words r → GiveSubject other words s
+        → (own ≡ other) × (r ≡ s)
+    by Own Own g h = (refl, g.1 ∙ sym h.1)
+    by (Property m) (Property n) g h =
+        let same = one_first h.0 m n r s (rw (after (Property 0) g.0 h.0 g.1 h.1) at g.2) h.2 in
+        (ap Property same.0, same.1)
+    by (Live d) (Live e) g h =
+        let same = numbers d e None None g.0 h.0 g.2.0 h.2.0 (sym g.1 ∙ h.1) g.2.1 g.2.2 h.2.1
+        h.2.2 in
+        (ap Live same.0, same.2)
+    by (Live d) (Rounds e p) g h =
+        let no = (numbers d e None (Some p) g.0 h.0 g.2.0 h.2.0 (sym g.1 ∙ h.1) g.2.1 g.2.2 h.2.1
+        h.2.2).1 in
+        cc
+    by (Rounds d o) (Live e) g h =
+        let no = (numbers d e (Some o) None g.0 h.0 g.2.0 h.2.0 (sym g.1 ∙ h.1) g.2.1 g.2.2 h.2.1
+        h.2.2).1 in
+        cc
+    by (Rounds d o) (Rounds e p) g h =
+        let same = numbers d e (Some o) (Some p) g.0 h.0 g.2.0 h.2.0 (sym g.1 ∙ h.1) g.2.1 g.2.2
+        h.2.1 h.2.2 in (
+          ap (λ f. Rounds f o) same.0 ∙ ap (Rounds e) (same_Some _ _ same.1),
+          same.2,
+        )
+    by Possible Possible g h = (refl, g.2 ∙ after Possible g.0 h.0 g.1 h.1 ∙ sym h.2)
+    by Outputs Outputs g h = (refl, g.2 ∙ after Outputs g.0 h.0 g.1 h.1 ∙ sym h.2)
+    by Own other g h = absurd (g.0 other h.0 (λ is. cc) h.1)
+    by own Own g h = absurd (h.0 own g.0 (λ is. cc) g.1)
+    by (Live d) other g h = absurd (unlike d other g.0 h.0 refl (sym g.1 ∙ h.1))
+    by (Rounds d o) other g h = absurd (unlike d other g.0 h.0 refl (sym g.1 ∙ h.1))
+    by own (Live e) g h = absurd (unlike e own h.0 g.0 refl (sym h.1 ∙ g.1))
+    by own (Rounds e p) g h = absurd (unlike e own h.0 g.0 refl (sym h.1 ∙ g.1))
+    by own other g h =
+        let letter = ap (λ (ws : List (List ℕ)). slice_index (slice_index_or ws 0 []) 7)
+        (sym g.1 ∙ h.1) in
+        absurd (omega (arith, letter))
+
+-- words whose first asks for no such circuit give FILE's own
+pub no_subject : (words : List (List ℕ)) (own : FileSubject) (rest : List (List ℕ))
+    → AskForNone words → GiveSubject own words rest → (own ≡ Own) × (rest ≡ words)
+no_subject words Own rest none g = (refl, g.1)
+no_subject words own rest none g = absurd (none own g.0 (λ is. cc) g.1)
+
+-- the word of fair runs begins with a dash
+fair_dash : (fairness : Fairness) → slice_index (fairness_word fairness) 0 ≡ 45
+fair_dash (Justice property) = refl
+fair_dash Alone = refl
+
+-- a word that begins with no dash asks for none
+pub undashed : (word : List ℕ) (words : List (List ℕ)) → slice_index word 0 ≢ 45
+    → AskForNone (word ∷ words)
+undashed word words plain Own more made is = absurd (made refl)
+undashed word words plain (Live fairness) more made is =
+    plain (ap (λ (ws : List (List ℕ)). slice_index (slice_index_or ws 0 []) 0) is
+    ∙ fair_dash fairness)
+undashed word words plain (Rounds fairness rounds) more made is =
+    plain (ap (λ (ws : List (List ℕ)). slice_index (slice_index_or ws 0 []) 0) is
+    ∙ fair_dash fairness)
+undashed word words plain own more made is =
+    plain (ap (λ (ws : List (List ℕ)). slice_index (slice_index_or ws 0 []) 0) is)
 
 -- ---- commands
 
@@ -331,39 +497,39 @@ pub neither_if : (words : List (List ℕ)) → FitNone (IsWhole words) → FitNo
 neither_if words whole alone (Some g) none = tt
 neither_if words whole alone None none = neither words whole alone none
 
--- what is asked is its justice property and its command
-same_asked : (c d : Asked) → c.justice ≡ d.justice → c.command ≡ d.command → c ≡ d
-same_asked c d justice command =
-    ap (λ j. the j c.command) justice ∙ ap (λ e. the d.justice e) command
+-- what is asked is its circuit of FILE and its command
+same_asked : (c d : Asked) → c.subject ≡ d.subject → c.command ≡ d.command → c ≡ d
+same_asked c d subject command =
+    ap (λ own. the own c.command) subject ∙ ap (λ e. the d.subject e) command
   where
-    the : Option Justice → Command → Asked
-    the j e = record { justice = j; command = e }
+    the : FileSubject → Command → Asked
+    the own e = record { subject = own; command = e }
 
--- what words give first, where they give a call: their limit, their justice property, and what
+-- what words give first, where they give a call: their limit, their circuit of FILE, and what
 -- constraints say
-first_is : (words rest more others : List (List ℕ)) (limit : ℕ) (a : Option Justice)
-    (constraints : Constraints) → IsLimited words limit rest → AreJustice a rest more
+first_is : (words rest more others : List (List ℕ)) (limit : ℕ) (own : FileSubject)
+    (constraints : Constraints) → IsLimited words limit rest → GiveSubject own rest more
     → AreConstraints constraints more others
     → (other : ℕ) (c : Asked) (paths further : List (List ℕ))
     → (g : IsCall words other c paths further)
-    → (other ≡ limit) × (c.justice ≡ a) × (g.constraints ≡ constraints) × (g.others ≡ others)
-first_is words rest more others limit a constraints limited asked said other c paths further g =
+    → (other ≡ limit) × (c.subject ≡ own) × (g.constraints ≡ constraints) × (g.others ≡ others)
+first_is words rest more others limit own constraints limited asked said other c paths further g =
     let words_are = one_limit words other limit g.rest rest g.limited limited in
-    let justice = one_justice rest c.justice a g.more more (rw words_are.1 at g.asked) asked in
+    let subject = one_subject rest c.subject own g.more more (rw words_are.1 at g.asked) asked in
     let same = one_constraints more g.constraints constraints g.others others
-    (rw justice.1 at g.said) said in
-    (words_are.0, justice.0, same.0, same.1)
+    (rw subject.1 at g.said) said in
+    (words_are.0, subject.0, same.0, same.1)
 
 -- what they give after these, where they give a command
-given_is : (words rest more others : List (List ℕ)) (limit : ℕ) (a : Option Justice)
+given_is : (words rest more others : List (List ℕ)) (limit : ℕ) (own : FileSubject)
     (constraints : Constraints) (u : Command) (x : Arguments) → IsLimited words limit rest
-    → AreJustice a rest more → AreConstraints constraints more others → AreCommand others u x
+    → GiveSubject own rest more → AreConstraints constraints more others → AreCommand others u x
     → (other : ℕ) (c : Asked) (paths further : List (List ℕ))
     → IsCall words other c paths further
-    → (other ≡ limit) × (c.justice ≡ a) × (under constraints u ≡ Some c.command)
+    → (other ≡ limit) × (c.subject ≡ own) × (under constraints u ≡ Some c.command)
     × (paths ≡ x.paths) × (further ≡ x.further)
-given_is words rest more others limit a constraints u x limited asked said gives other c paths further g =
-    let is = first_is words rest more others limit a constraints limited asked said other c paths
+given_is words rest more others limit own constraints u x limited asked said gives other c paths further g =
+    let is = first_is words rest more others limit own constraints limited asked said other c paths
     further g in
     let same = one_command others g.usual u g.arguments x (rw is.3 at g.gives) gives in (
       is.0,
@@ -378,70 +544,72 @@ pub one_call : (words : List (List ℕ)) (limit other : ℕ) (c d : Asked) (p q 
     → IsCall words limit c p r
     → IsCall words other d q s → (limit ≡ other) × (c ≡ d) × (p ≡ q) × (r ≡ s)
 one_call words limit other c d p q r s g h =
-    let is = given_is words h.rest h.more h.others other d.justice h.constraints h.usual h.arguments
+    let is = given_is words h.rest h.more h.others other d.subject h.constraints h.usual h.arguments
     h.limited h.asked h.said h.gives limit c p r g in
     let same : Some c.command ≡ Some d.command = sym is.2 ∙ h.command in
     (is.0, same_asked c d is.1 (same_Some _ _ same), is.3 ∙ sym h.on, is.4 ∙ sym h.beside)
 
--- words after a limit that give no justice property rightly give no command
+-- words after a limit that give no circuit of FILE rightly give no command
 pub unjust_none : (words rest : List (List ℕ)) (limit : ℕ) → IsLimited words limit rest
-    → ((a : Option Justice) (more : List (List ℕ)) → ¬ AreJustice a rest more)
+    → ((own : FileSubject) (more : List (List ℕ)) → ¬ GiveSubject own rest more)
     → (other : ℕ) (c : Asked) (paths further : List (List ℕ)) → ¬ IsCall words other c paths further
 unjust_none words rest limit limited none other c paths further g =
     let same = (one_limit words other limit g.rest rest g.limited limited).1 in
-    none c.justice g.more (rw same at g.asked)
+    none c.subject g.more (rw same at g.asked)
 
 -- nor do words after these that don't say rightly what constraints say
-pub unsaid_none : (words rest more : List (List ℕ)) (limit : ℕ) (a : Option Justice)
-    → IsLimited words limit rest → AreJustice a rest more
+pub unsaid_none : (words rest more : List (List ℕ)) (limit : ℕ) (own : FileSubject)
+    → IsLimited words limit rest → GiveSubject own rest more
     → ((constraints : Constraints) (others : List (List ℕ)) → ¬ AreConstraints constraints more others)
     → (other : ℕ) (c : Asked) (paths further : List (List ℕ)) → ¬ IsCall words other c paths
     further
-unsaid_none words rest more limit a limited asked none other c paths further g =
+unsaid_none words rest more limit own limited asked none other c paths further g =
     let words_are = one_limit words other limit g.rest rest g.limited limited in
-    let justice = one_justice rest c.justice a g.more more (rw words_are.1 at g.asked) asked in
-    none g.constraints g.others (rw justice.1 at g.said)
+    let subject = one_subject rest c.subject own g.more more (rw words_are.1 at g.asked) asked in
+    none g.constraints g.others (rw subject.1 at g.said)
 
 -- nor words after all of these that are no command
-pub fits_none : (words rest more others : List (List ℕ)) (limit : ℕ) (a : Option Justice)
-    (constraints : Constraints) → IsLimited words limit rest → AreJustice a rest more
+pub fits_none : (words rest more others : List (List ℕ)) (limit : ℕ) (own : FileSubject)
+    (constraints : Constraints) → IsLimited words limit rest → GiveSubject own rest more
     → AreConstraints constraints more others
     → ((c : Command) (x : Arguments) → ¬ AreCommand others c x)
     → (other : ℕ) (c : Asked) (paths further : List (List ℕ)) → ¬ IsCall words other c paths
     further
-fits_none words rest more others limit a constraints limited asked said none other c paths further g =
-    let is = first_is words rest more others limit a constraints limited asked said other c paths
+fits_none words rest more others limit own constraints limited asked said none other c paths further g =
+    let is = first_is words rest more others limit own constraints limited asked said other c paths
     further g in
     none g.usual g.arguments (rw is.3 at g.gives)
 
 -- nor where what they are doesn't compare, and constraints don't say what is usual
-pub uncompared_none : (words rest more others : List (List ℕ)) (limit : ℕ) (a : Option Justice)
+pub uncompared_none : (words rest more others : List (List ℕ)) (limit : ℕ) (own : FileSubject)
     (constraints : Constraints) (u : Command) (x : Arguments) → IsLimited words limit rest
-    → AreJustice a rest more → AreConstraints constraints more others → AreCommand others u x
+    → GiveSubject own rest more → AreConstraints constraints more others → AreCommand others u x
     → under constraints u ≡ None
     → (other : ℕ) (c : Asked) (paths further : List (List ℕ)) → ¬ IsCall words other c paths
     further
-uncompared_none words rest more others limit a constraints u x limited asked said gives none other c paths
+uncompared_none words rest more others limit own constraints u x limited asked said gives none other c paths
     further g =
-    let is = given_is words rest more others limit a constraints u x limited asked said gives other c
+    let is =
+    given_is words rest more others limit own constraints u x limited asked said gives other c
     paths further g in
     let not : None ≡ Some c.command = sym none ∙ is.2 in
     cc
 
--- nor where no justice property is asked about by what they are
-pub unasked_none : (words rest more others : List (List ℕ)) (limit : ℕ) (a : Option Justice)
+-- nor where what they are isn't asked of it
+pub unasked_none : (words rest more others : List (List ℕ)) (limit : ℕ) (own : FileSubject)
     (constraints : Constraints) (u d : Command) (x : Arguments) → IsLimited words limit rest
-    → AreJustice a rest more → AreConstraints constraints more others → AreCommand others u x
-    → under constraints u ≡ Some d → is_asked a d ≡ false
+    → GiveSubject own rest more → AreConstraints constraints more others → AreCommand others u x
+    → under constraints u ≡ Some d → is_asked own d ≡ false
     → (other : ℕ) (c : Asked) (paths further : List (List ℕ)) → ¬ IsCall words other c paths
     further
-unasked_none words rest more others limit a constraints u d x limited asked said gives is_under none other c
+unasked_none words rest more others limit own constraints u d x limited asked said gives is_under none other c
     paths further g =
-    let is = given_is words rest more others limit a constraints u x limited asked said gives other c
+    let is =
+    given_is words rest more others limit own constraints u x limited asked said gives other c
     paths further g in
     let command : Some c.command ≡ Some d = sym is.2 ∙ is_under in
     true≢false (sym g.allowed ∙ ap (λ j. is_asked j c.command) is.1
-    ∙ ap (λ e. is_asked a e) (same_Some _ _ command) ∙ none)
+    ∙ ap (λ e. is_asked own e) (same_Some _ _ command) ∙ none)
 
 -- so what they give is told exactly
 pub gives_exactly : (words : List (List ℕ)) (limit : ℕ) (c : Asked) (paths further : List (List ℕ))
@@ -452,33 +620,40 @@ gives_exactly words limit c paths further g d = (
   λ h. ap Some (one_call words limit h.0 c d paths h.1 further h.2 g h.3).1,
 )
 
+-- the third letter of the first word
+abbrev third : List (List ℕ) → ℕ
+third words = slice_index (slice_index_or words 0 []) 2
+
+-- those of both questions are others than those of the words of fair runs
+fair_third : (fairness : Fairness) → (104 ≢ slice_index (fairness_word fairness) 2)
+    × (118 ≢ slice_index (fairness_word fairness) 2)
+fair_third (Justice property) = (λ is. omega (arith, is), λ is. omega (arith, is))
+fair_third Alone = (λ is. omega (arith, is), λ is. omega (arith, is))
+
 -- a question is no command
 pub no_command : (words : List (List ℕ)) (q : Help) (limit : ℕ) (c : Asked)
     (paths further : List (List ℕ)) → words ≡ word_of q ∷ []
     → ¬ IsCall words limit c paths further
 no_command words q limit c paths further are g =
     let alone = asked_alone words g.rest q limit are g.limited in
-    let more = (no_justice (word_of q ∷ []) c.justice g.more (no_asked q) (rw alone at g.asked)).1
-    in
+    let more =
+    (no_subject (word_of q ∷ []) c.subject g.more (no_asked q) (rw alone at g.asked)).1 in
     let others = (one_constraints (word_of q ∷ []) g.constraints OfBoth g.others (word_of q ∷ [])
     (rw more at g.said) (no_said q, refl)).1 in
     no_question q g.usual g.arguments (rw others at g.gives)
   where
-    no_asked : (q : Help) (more : List (List ℕ)) → ¬ (word_of q ∷ [] ≡ codes "--justice" ∷ more)
-    no_asked Usage more is =
-        let letter = ap (λ (words : List (List ℕ)). slice_index (slice_index_or words 0 []) 2) is in
-        omega (arith, letter)
-    no_asked Version more is =
-        let letter = ap (λ (words : List (List ℕ)). slice_index (slice_index_or words 0 []) 2) is in
-        omega (arith, letter)
+    no_asked : (q : Help) → AskForNone (word_of q ∷ [])
+    no_asked q Own more made is = absurd (made refl)
+    no_asked Usage (Live fairness) more made is = (fair_third fairness).0 (ap third is)
+    no_asked Usage (Rounds fairness rounds) more made is = (fair_third fairness).0 (ap third is)
+    no_asked Version (Live fairness) more made is = (fair_third fairness).1 (ap third is)
+    no_asked Version (Rounds fairness rounds) more made is = (fair_third fairness).1 (ap third is)
+    no_asked Usage own more made is = let letter = ap third is in omega (arith, letter)
+    no_asked Version own more made is = let letter = ap third is in omega (arith, letter)
 
     no_said : (q : Help) (more : List (List ℕ)) → ¬ (word_of q ∷ [] ≡ codes "--constraints" ∷ more)
-    no_said Usage more is =
-        let letter = ap (λ (words : List (List ℕ)). slice_index (slice_index_or words 0 []) 2) is in
-        omega (arith, letter)
-    no_said Version more is =
-        let letter = ap (λ (words : List (List ℕ)). slice_index (slice_index_or words 0 []) 2) is in
-        omega (arith, letter)
+    no_said Usage more is = let letter = ap third is in omega (arith, letter)
+    no_said Version more is = let letter = ap third is in omega (arith, letter)
 
     no_form : (q : Help) (a : Action) (x : Arguments)
         → ¬ GivesArguments (name_of a) (form_of a) (word_of q ∷ []) x

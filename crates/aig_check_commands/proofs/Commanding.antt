@@ -1,11 +1,12 @@
 -- Which commands print, and which check what is given beside their files.
-use Rattle.aig_check_commands.proofs.Words.{◌≡◌, ◌==◌, ℕ, zero, suc, ◌<◌, eqb-true, Bool, true, false, true≢false, Option, None, Some, refl, sym, arith, IsTrue, Command, FileCommand, Justice, Condition, Question, beside_of, is_asked, prints}
+use Rattle.aig_check_commands.proofs.Words.{◌≡◌, ◌==◌, ℕ, zero, suc, ◌<◌, eqb-true, Bool, true, false, true≢false, refl, sym, arith, IsTrue, Command, FileCommand, Condition, Question, beside_of, is_asked, prints, FileSubject}
 use Rattle.aig_answers.specs.Goals.{proof_count}
 use Rattle.aig_answers.specs.declared.goals.goal.Goal.{Goal}
 use Rattle.aig_answers.specs.declared.goals.goal.Goal.TheVariants as goals
 use Rattle.aig_subjects.specs.declared.subject.Subject.{Subject}
 use Rattle.aig_subjects.specs.declared.subject.Subject.TheVariants as subjects
 use Rattle.aig_check_commands.specs.declared.command.Command.TheVariants as commands
+use Rattle.aig_subjects.specs.declared.subject.FileSubject.TheVariants.{Own}
 
 pub checks_where : (c : Command) → prints c ≡ false → 0 < beside_of c
 checks_where c not = from (beside_of c) not
@@ -57,8 +58,8 @@ only_checks (commands.Print q) some one two three = omega (arith, some)
 only_checks (commands.Obligations optimize) some one two three = omega (arith, some)
 only_checks (commands.Obligation condition optimize) some one two three = omega (arith, some)
 
--- a command on FILE itself asks about no justice property
-pub file_alone : (a : Option Justice) (c : FileCommand) → IsTrue (is_asked a (commands.File c))
-    → a ≡ None
-file_alone None c asked = refl
-file_alone (Some a) c asked = absurd (true≢false (sym asked))
+-- a command on FILE itself asks about its own circuit
+pub file_alone : (own : FileSubject) (c : FileCommand) → IsTrue (is_asked own (commands.File c))
+    → own ≡ Own
+file_alone Own c asked = refl
+file_alone own c asked = absurd (true≢false (sym asked))

@@ -1,16 +1,16 @@
 -- The comments of a small query, computed; and wrong words and lines, of which the definitions are
 -- false.
-use Rattle.aig_check_commands.proofs.Words.{◌≡◌, ◌≢◌, ◌⊎◌, ℕ, All, Bool, true, false, None, Ok, Option, List, [], ◌∷◌, ◌++◌, length, refl, ap, subst, sym, arith, length-append, ◌∙◌, inl, inr, Some, same_Some, Err, IsTrue, not, slice_get, slice_index, slice_index_or, lit_to, False, Leaf, AigEdge, Properties, only_false, edge_to, lit_of, no_properties, IsNumber, ByName, one_constraints, Comparison, Constraints, Compared, OfBoth, OfFirst, Alike, Apart, Accepted, Judges, RefutationError, BoundedClauses, IsSettled, Condition, TellsOfCondition, Asked, Command, FileCommand, Justice, OpenError, CheckError, TellsOfGiven, file_verdict, shown_line, Window, Acts, OnOpening, Arguments, GivesArguments, setting_words, IsLimited, Action, IsObligationsText, always_line, equal_line, safe_line, starts_text, AreCommand, FitNone, Give, IsAlone, IsOf, IsOnWitness, IsWhole, command_of, form_of, name_of, of_both, raw_alone, under, WitnessAction, AsksOfBads, ArePrinted, HasNoClauses, IsQuestionText, room_of, Question, WindowClauses}
+use Rattle.aig_check_commands.proofs.Words.{◌≡◌, ◌≢◌, ◌⊎◌, ℕ, All, Bool, true, false, None, Ok, Option, List, [], ◌∷◌, ◌++◌, length, refl, ap, subst, sym, arith, length-append, ◌∙◌, inl, inr, Some, same_Some, Err, IsTrue, not, slice_get, slice_index, slice_index_or, lit_to, False, Leaf, AigEdge, Properties, only_false, edge_to, lit_of, no_properties, IsNumber, ByName, one_constraints, Comparison, Constraints, Compared, OfBoth, OfFirst, Alike, Apart, Accepted, Judges, RefutationError, BoundedClauses, IsSettled, Condition, TellsOfCondition, Asked, Command, FileCommand, FileSubject, OpenError, CheckError, TellsOfGiven, file_verdict, shown_line, Window, Acts, OnOpening, Arguments, GivesArguments, setting_words, IsLimited, Action, IsObligationsText, always_line, equal_line, starts_text, AreCommand, FitNone, Give, IsAlone, IsOf, IsOnWitness, IsWhole, command_of, form_of, name_of, of_both, raw_alone, under, WitnessAction, AsksOfBads, ArePrinted, HasNoClauses, IsQuestionText, room_of, Question, WindowClauses}
 use Rattle.aig_base.proofs.Words.{Result}
 use Rattle.std.specs.Prelude.{◌^◌, codes, decimal, if◌then◌else◌}
 use Rattle.std.specs.Fmt.{digits}
 use Rattle.aig_circuit.proofs.Words.{Circuit}
 use Rattle.aig_check_commands.specs.Titles.{title_text}
-use Rattle.aig_simulated.specs.Simulated.{ChecksModel}
+use Rattle.aig_witness_circuit_checks.specs.Simulated.{ChecksModel}
 use Rattle.aig_witness.specs.declared.error.WitnessError.TheVariants as witness
 use Rattle.aig_witness.specs.declared.file.ShowError.TheVariants as shows
 use Rattle.aig_witness.specs.declared.fair.file.ShownProperty.TheVariants as properties
-use Rattle.aig_check_commands.proofs.Calling.{no_justice}
+use Rattle.aig_check_commands.proofs.Calling.{no_subject, undashed}
 use Rattle.aig_command_line.specs.declared.files.OpenError.TheVariants as opening
 use Rattle.aig_answers.specs.declared.plans.asking.Ask.TheVariants as asks
 use Rattle.aig_answers.specs.declared.plans.errors.PlanError.TheVariants as plans
@@ -21,12 +21,13 @@ use Rattle.aig_check_commands.specs.declared.error.CheckError.TheVariants as err
 use Rattle.aig_answers.specs.declared.goals.error.GoalFault.{GoalFault}
 use Rattle.aig_answers.specs.declared.goals.goal.Goal.{Goal}
 use Rattle.aig_answers.specs.declared.goals.goal.Goal.TheVariants as goals
-use Rattle.aig_subjects.specs.declared.subject.FileSubject.TheVariants.{Live, Own}
+use Rattle.aig_edit_laws.specs.declared.fairness.Fairness.TheVariants.{Alone, Justice}
+use Rattle.aig_subjects.specs.declared.subject.FileSubject.TheVariants.{Live, Outputs, Own, Possible, Property, Rounds}
 use Rattle.aig_subjects.specs.declared.subject.Subject.{Subject}
 use Rattle.aig_subjects.specs.declared.subject.Subject.TheVariants as subjects
 use Rattle.aig_check_commands.specs.Checked.{AnswersCheck, answer_of}
 use Rattle.aig_check_commands.specs.CommandWords.{has_two_settings}
-use Rattle.aig_check_commands.specs.Goals.{line_of, safe_to_line, step_line, window_line}
+use Rattle.aig_check_commands.specs.FileSubjects.{AskForNone, line_of, subject_word}
 use Rattle.aig_check_commands.specs.declared.command.Action.TheVariants as actions
 use Rattle.aig_check_commands.specs.declared.command.Command.TheVariants as asked
 use Rattle.aig_check_commands.specs.declared.command.FileCommand.TheVariants as commands
@@ -45,9 +46,9 @@ is_witness : (a : Action) (k m : ℕ) (d o p : Bool) → asked.File (commands.Wi
 is_witness actions.Witness k m d o p is = refl
 is_witness a k m d o p is = cc
 
--- a command of a justice property, or of none
-abbrev of_property : Option Justice → Command → Asked
-of_property a c = record { justice = a; command = c }
+-- a command of a circuit of FILE
+abbrev of_subject : FileSubject → Command → Asked
+of_subject own c = record { subject = own; command = c }
 
 -- no command on a file has raw clauses of one proof alone, or is on a witness circuit
 whole_of : (words : List (List ℕ)) (c : Command) (d : FileCommand) (x : Arguments)
@@ -92,16 +93,16 @@ no_setting first rest other word more dash is =
     let same : first ≡ word = cc in other (ap (λ (w : List ℕ). slice_index w 0) same ∙ dash)
 
 -- they are a command on a file whole, where they give one
-plain_whole : (first : List ℕ) (rest : List (List ℕ)) (a : Option Justice) (d : FileCommand)
-    → slice_index first 0 ≢ 45 → Give (first ∷ rest) (of_property a (asked.File d))
+plain_whole : (first : List ℕ) (rest : List (List ℕ)) (own : FileSubject) (d : FileCommand)
+    → slice_index first 0 ≢ 45 → Give (first ∷ rest) (of_subject own (asked.File d))
     → (x : Arguments) × IsWhole (first ∷ rest) (asked.File d) x
-plain_whole first rest a d other give =
+plain_whole first rest own d other give =
     let words = first ∷ rest in
     let none = no_setting first rest other in
     let call = give.3 in
     let all = no_limit words give.0 call.rest (λ more. none (codes "--limit") more refl) call.limited in
-    let every = (no_justice words a call.more (λ more. none (codes "--justice") more refl)
-    (rw all at call.asked)).1 in
+    let every =
+    (no_subject words own call.more (undashed first rest other) (rw all at call.asked)).1 in
     let said = one_constraints words call.constraints OfBoth call.others words (rw every at call.said)
     ((λ more. none (codes "--constraints") more refl), refl) in
     let usual : Some call.usual ≡ Some (asked.File d) =
@@ -110,10 +111,10 @@ plain_whole first rest a d other give =
     (call.arguments, whole_of words (asked.File d) d call.arguments refl (rw (is, said.1) at call.gives))
 
 -- a witness, and a word more
-no_more_words : (file witness more : List ℕ) (a : Option Justice)
-    → ¬ Give (codes "run" ∷ file ∷ witness ∷ more ∷ []) (of_property a (asked.File commands.Run))
-no_more_words file witness more a give =
-    let of = plain_whole (codes "run") (file ∷ witness ∷ more ∷ []) a commands.Run
+no_more_words : (file witness more : List ℕ) (own : FileSubject)
+    → ¬ Give (codes "run" ∷ file ∷ witness ∷ more ∷ []) (of_subject own (asked.File commands.Run))
+no_more_words file witness more own give =
+    let of = plain_whole (codes "run") (file ∷ witness ∷ more ∷ []) own commands.Run
     (λ is. omega (arith, is)) give in
     let x = of.0 in
     let whole = of.1 in
@@ -137,11 +138,12 @@ no_more_words file witness more a give =
     no_settings d false distinct raw = let no = raw refl in cc
 
 -- a proof for a witness
-no_other_name : (file steps proof : List ℕ) (k : ℕ) (optimize : Bool) (a : Option Justice)
-    → ¬ Give (codes "refuted" ∷ file ∷ steps ∷ proof ∷ []) (of_property a (asked.File
+no_other_name : (file steps proof : List ℕ) (k : ℕ) (optimize : Bool) (own : FileSubject)
+    → ¬ Give (codes "refuted" ∷ file ∷ steps ∷ proof ∷ []) (of_subject own (asked.File
     (commands.Witness k optimize)))
-no_other_name file steps proof k optimize a give =
-    let of = plain_whole (codes "refuted") (file ∷ steps ∷ proof ∷ []) a (commands.Witness k optimize)
+no_other_name file steps proof k optimize own give =
+    let of =
+    plain_whole (codes "refuted") (file ∷ steps ∷ proof ∷ []) own (commands.Witness k optimize)
     (λ is. omega (arith, is)) give in
     let x = of.0 in
     let whole = of.1 in
@@ -181,7 +183,7 @@ alike_arguments = record {
 
 -- files are compared with registers that are alike by name
 abbrev alike : Constraints → Asked
-alike constraints = of_property None
+alike constraints = of_subject Own
     (asked.Check (subjects.Miter (record { starts = Alike ByName; constraints = constraints }))
     (goals.Refuted 3) true true)
 
@@ -213,7 +215,7 @@ alike_by_name = (
       usual = refl;
     });
     more = alike_words;
-    asked = (λ more. no_alike_setting (codes "--justice") more refl, refl);
+    asked = (undashed _ _ (λ is. omega (arith, is)), refl);
     constraints = OfBoth;
     others = alike_words;
     said = (λ more. no_alike_setting (codes "--constraints") more refl, refl);
@@ -237,6 +239,19 @@ no_compared_setting word more other is =
     let letter = ap (λ (words : List (List ℕ)). slice_index (slice_index_or words 0 []) 2) is in
     other (sym letter)
 
+compared_asks_for_none : AskForNone compared_words
+compared_asks_for_none Own more made is = absurd (made refl)
+compared_asks_for_none (Live (Justice property)) more made is =
+    no_compared_setting (codes "--justice") more (λ is. omega (arith, is)) is
+compared_asks_for_none (Live Alone) more made is =
+    no_compared_setting (codes "--endless") more (λ is. omega (arith, is)) is
+compared_asks_for_none (Rounds (Justice property) rounds) more made is =
+    no_compared_setting (codes "--justice") more (λ is. omega (arith, is)) is
+compared_asks_for_none (Rounds Alone rounds) more made is =
+    no_compared_setting (codes "--endless") more (λ is. omega (arith, is)) is
+compared_asks_for_none own more made is =
+    no_compared_setting (subject_word own) more (λ is. omega (arith, is)) is
+
 constraints_compared : Give compared_words (alike Compared)
 constraints_compared = (
   2 ^ 24,
@@ -250,7 +265,7 @@ constraints_compared = (
       usual = refl;
     });
     more = compared_words;
-    asked = (λ more. no_compared_setting (codes "--justice") more (λ is. omega (arith, is)), refl);
+    asked = (compared_asks_for_none, refl);
     constraints = Compared;
     others = alike_words;
     said = refl;
@@ -331,14 +346,16 @@ module _ {S P : Type 0} (left : S → Option (List ℕ)) (failed : S → Bool)
       others (Ok text)
 
   -- a proof for one step is told as one for each
-  no_window_told : ¬ Answers (subjects.File Own) (goals.Refuted 1) (window_line 1)
+  no_window_told : ¬ Answers (subjects.File Own) (goals.Refuted 1)
+      (codes "no bad state at any step, if none up to step 1\n")
   unfolding digits
   no_window_told is =
       let told = answered (subjects.File Own) (goals.Refuted 1) _ is.checked is.told in
       let word : 97 ≡ 115 = ap (λ text. slice_index text 16) told in omega (arith, word)
 
   -- steps up to one are told as that one
-  no_one_step_told : ¬ Answers (subjects.File Own) (goals.RefutedTo 1) (step_line 1)
+  no_one_step_told : ¬ Answers (subjects.File Own) (goals.RefutedTo 1)
+      (codes "no bad state at step 1\n")
   unfolding digits
   no_one_step_told is =
       let told = answered (subjects.File Own) (goals.RefutedTo 1) _ is.checked is.told in
@@ -346,14 +363,47 @@ module _ {S P : Type 0} (left : S → Option (List ℕ)) (failed : S → Bool)
 
   -- what is shown of a justice property is told of the bad states
   no_bad_states_told : (property k : ℕ) (form : Window)
-      → ¬ Answers (subjects.File (Live property)) (goals.Safe k form) safe_line
+      → ¬ Answers (subjects.File (Live (Justice property))) (goals.Safe k form)
+      (codes "no bad state at any step\n")
   no_bad_states_told property k form is =
-      let told = answered (subjects.File (Live property)) (goals.Safe k form) _ is.checked is.told in
+      let told = answered (subjects.File (Live (Justice property))) (goals.Safe k form) _
+      is.checked is.told in
       let letter : 98 ≡ 102 = ap (λ text. slice_index text 3) told in omega (arith, letter)
+
+  -- nor what is shown of runs without end of a justice property
+  no_justice_told : (k : ℕ) (form : Window)
+      → ¬ Answers (subjects.File (Live Alone)) (goals.Safe k form) (codes "no fair run of j0\n")
+  unfolding digits
+  no_justice_told k form is =
+      let told = answered (subjects.File (Live Alone)) (goals.Safe k form) _ is.checked is.told in
+      let letter : 102 ≡ 114 = ap (λ text. slice_index text 3) told in omega (arith, letter)
+
+  -- what is shown of one bad literal is told of all, and what is shown of outputs, or of constraints,
+  -- of bad states
+  no_others_told : (number k : ℕ) (form : Window)
+      → ¬ Answers (subjects.File (Property number)) (goals.Safe k form)
+      (codes "no bad state at any step\n")
+  no_others_told number k form is =
+      let told =
+      answered (subjects.File (Property number)) (goals.Safe k form) _ is.checked is.told in
+      let letter : 110 ≡ 98 = ap (λ text. slice_index text 0) told in omega (arith, letter)
+
+  no_bads_told : (k : ℕ) (form : Window)
+      → ¬ Answers (subjects.File Outputs) (goals.Safe k form) (codes "no bad state at any step\n")
+  no_bads_told k form is =
+      let told = answered (subjects.File Outputs) (goals.Safe k form) _ is.checked is.told in
+      let letter : 98 ≡ 111 = ap (λ text. slice_index text 3) told in omega (arith, letter)
+
+  no_states_told : (k : ℕ) (form : Window)
+      → ¬ Answers (subjects.File Possible) (goals.Safe k form) (codes "no bad state at any step\n")
+  no_states_told k form is =
+      let told = answered (subjects.File Possible) (goals.Safe k form) _ is.checked is.told in
+      let letter : 98 ≡ 114 = ap (λ text. slice_index text 3) told in omega (arith, letter)
 
   -- equal machines are told as a safe one
   no_safety_told : (comparison : Comparison) (k : ℕ)
-      → ¬ Answers (subjects.Miter comparison) (goals.Refuted k) safe_line
+      → ¬ Answers (subjects.Miter comparison) (goals.Refuted k)
+      (codes "no bad state at any step\n")
   no_safety_told comparison k is =
       let told = answered (subjects.Miter comparison) (goals.Refuted k) _ is.checked is.told in
       let letter : 110 ≡ 101 = ap (λ text. slice_index text 0) told in omega (arith, letter)
@@ -412,7 +462,7 @@ no_silent_question q m sum is =
     let letter : 0 ≡ 99 = ap (λ text. slice_index text 0) is.exact in omega (arith, letter)
 
 no_claim : (q : Question) (m : Circuit) (sum : List ℕ) (k : ℕ)
-    → ¬ IsQuestionText q m sum (safe_to_line k)
+    → ¬ IsQuestionText q m sum (line_of (subjects.File Own) (goals.RefutedTo k))
 unfolding title_text
 no_claim q m sum k is =
     let letter : 110 ≡ 99 = ap (λ text. slice_index text 0) is.exact in omega (arith, letter)

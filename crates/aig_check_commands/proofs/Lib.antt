@@ -1,17 +1,7 @@
 mod Words
-mod Commenting
+pub mod line_lemmas
 mod Calling
-mod Flushing
+pub mod check_lemmas
 mod Commanding
 mod Opened
-pub mod Outcomes
-mod Pairing
-mod Placing
-mod Questioning
-mod Refusing
-mod Shown
-mod Simulating
-pub mod Viewed
 mod Examples
-pub mod Passing
-pub mod Summing

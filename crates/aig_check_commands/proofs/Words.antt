@@ -16,11 +16,10 @@ pub use Rattle.aig_check_commands.specs.Bounded.{letter_of, place_line}
 pub use Rattle.aig_check_commands.specs.CommandWords.{AreCommand, FitNone, Give, IsAlone, IsCall, IsOf, IsOnWitness, IsWhole, beside_of, command_of, form_of, name_of, of_both, paths_of, prints, raw_alone, raw_word, under, witness_form, witness_name}
 pub use Rattle.aig_check_commands.specs.Comments.{bad_line, input_line, latch_comment}
 pub use Rattle.aig_check_commands.specs.Explaining.{IsRefusedIn, Stream, bytes_of, has_failed, keeps_nothing, never_fails}
-pub use Rattle.aig_check_commands.specs.Justice.{AreJustice, IsNumbered, is_asked}
+pub use Rattle.aig_check_commands.specs.FileSubjects.{AskForNone, GiveFairness, GiveNumbers, GiveSubject, IsNumberFirst, IsNumbered, fair_subject, fairness_word, is_asked, is_fair, subject_word}
 pub use Rattle.aig_check_commands.specs.Opening.{AreOpened, OnOpening, OpensAll, unopened}
 pub use Rattle.aig_check_commands.specs.Pairs.{AnswersObligations, IsObligationsText, formula_of, obligation_verdicts, part_text}
 pub use Rattle.aig_check_commands.specs.EqualLines.{always_line, comparison_text, equal_line, starts_text}
-pub use Rattle.aig_check_commands.specs.Goals.{safe_line}
 pub use Rattle.aig_check_commands.specs.Printed.{EndsWith, Printed}
 pub use Rattle.aig_check_commands.specs.Printing.{GivesSummed, IsKnownText, IsSolutionOf, IsTextOf, IsTextOfQuestion, WritesBehind, after_writing, clauses_with}
 pub use Rattle.aig_check_commands.specs.Questions.{AnswersQuestion, ArePrinted, HasNoClauses, IsMadeOwn, IsQuestionText, TellsOfClauses, made_verdict}
@@ -36,8 +35,7 @@ pub use Rattle.aig_check_commands.specs.declared.command.Command.{Command}
 pub use Rattle.aig_check_commands.specs.declared.command.FileCommand.{FileCommand}
 pub use Rattle.aig_check_commands.specs.declared.command.WitnessAction.{WitnessAction}
 pub use Rattle.aig_check_commands.specs.declared.error.CheckError.{CheckError}
-pub use Rattle.aig_check_commands.specs.declared.justice.Justice.{Justice}
-pub use Rattle.aig_check_commands.specs.declared.titles.title.Title.{Title}
+pub use Rattle.aig_check_commands.specs.declared.lines.titles.title.Title.{Title}
 pub use Rattle.aig_circuit.proofs.Words.{IsCircuit, IsLeaf, Properties, edge_to, lit_of, no_properties, only_false}
 pub use Rattle.aig_circuit.specs.Circuit.{Circuit, IsInRange, IsLatch, latch_leaves}
 pub use Rattle.aig_circuit.specs.View.{lists_circuit}
@@ -76,10 +74,11 @@ pub use Rattle.aig_reader.specs.declared.error.ReadError.{ReadError}
 pub use Rattle.aig_refutation.specs.declared.error.RefutationError.{RefutationError}
 pub use Rattle.aig_runs.specs.Queries.{last_bads}
 pub use Rattle.aig_runs.specs.declared.window.Window.{Window}
-pub use Rattle.aig_simulated.specs.Simulated.{IsOwn, Proofs, TellsOfCondition, proof_for, proofs_of}
-pub use Rattle.aig_simulated.specs.Witnesses.{ReadsWitness}
-pub use Rattle.aig_simulation.specs.Names.{condition_name}
-pub use Rattle.aig_simulation.specs.declared.condition.Condition.{Condition}
+pub use Rattle.aig_witness_circuit_checks.specs.Simulated.{IsOwn, Proofs, TellsOfCondition, proof_for, proofs_of}
+pub use Rattle.aig_witness_circuit_checks.specs.Witnesses.{ReadsWitness}
+pub use Rattle.aig_witness_circuits.specs.Names.{condition_name}
+pub use Rattle.aig_witness_circuits.specs.declared.condition.Condition.{Condition}
+pub use Rattle.aig_subjects.specs.declared.subject.FileSubject.{FileSubject}
 pub use Rattle.aig_unroll.specs.Places.{place_at}
 pub use Rattle.aig_unroll.specs.Unroll.{UnrollsTo}
 pub use Rattle.aig_witness.specs.Claims.{RefusesClaim, ShowsClaim}

@@ -2,7 +2,7 @@
 -- What the program does with its words. Files are opened as a trait says; of a file that is read it
 -- says the bytes that are left and whether a read failed, and of what is written to the bytes held,
 -- whether a write failed, and whether all of them are in their place.
-use Rattle.std.specs.Prelude.{◌≡◌, ◌↔◌, ◌⊎◌, ℕ, Bool, IsTrue, List, [], ◌∷◌, ◌++◌, take, drop, Option, None, Result, Err, OnOk}
+use Rattle.std.specs.Prelude.{◌≡◌, ◌↔◌, ◌⊎◌, ℕ, Bool, IsTrue, List, [], ◌∷◌, ◌++◌, take, drop, Option, Result, Err, OnOk}
 use Rattle.aig_command_line.specs.declared.help.Help.{Help}
 use Rattle.aig_command_line.specs.Help.{word_of}
 use Rattle.aig_command_line.specs.declared.status.Ending.{Ending}
@@ -12,58 +12,58 @@ use Rattle.aig_command_line.specs.declared.files.OpenError.{OpenError}
 use Rattle.aig_check_commands.specs.declared.command.Asked.{Asked}
 use Rattle.aig_check_commands.specs.declared.command.Command.{Command}
 use Rattle.aig_check_commands.specs.declared.command.Command.TheVariants as commands
-use Rattle.aig_check_commands.specs.declared.justice.Justice.{Justice}
 use Rattle.aig_check_commands.specs.declared.error.CheckError.{CheckError}
 use Rattle.aig_check_commands.specs.declared.error.CheckError.TheVariants as errors
 use Rattle.aig_subjects.specs.Subjects.{file_count}
+use Rattle.aig_subjects.specs.declared.subject.FileSubject.{FileSubject}
+use Rattle.aig_subjects.specs.declared.subject.FileSubject.TheVariants.{Own}
 use Rattle.aig_check_commands.specs.Checked.{RunsGoal}
-use Rattle.aig_check_commands.specs.Justice.{file_subject, subject_of}
+use Rattle.aig_check_commands.specs.FileSubjects.{subject_of}
 use Rattle.aig_check_commands.specs.Opening.{OpensAll}
 use Rattle.aig_check_commands.specs.Pairs.{RunsObligations}
 use Rattle.aig_check_commands.specs.Questions.{RunsQuestion}
 use Rattle.aig_check_commands.specs.Running.{Runs}
 use Rattle.aig_check_commands.specs.Simulating.{RunsObligation, RunsSimulated}
-use Rattle.aig_simulated.specs.Simulated.{proofs_of}
+use Rattle.aig_witness_circuit_checks.specs.Simulated.{proofs_of}
 use Rattle.aig_check_commands.specs.CommandWords.{Give, IsCall}
 
 -- What is asked was done with files, of which the first is FILE: proofs of a goal were checked,
 -- which come behind the files of what is asked about; or clauses were printed, or proofs checked of
 -- a witness circuit, of FILE's circuit that is asked about; or a command was run on FILE itself.
 abbrev pub RanAll : {F W : Type 0} → (F → Option (List ℕ)) → (F → Bool) → (W → Option (List ℕ))
-    → (W → Bool) → ℕ → Option Justice → Command → List F → W → Result Unit CheckError → List F → W
+    → (W → Bool) → ℕ → FileSubject → Command → List F → W → Result Unit CheckError → List F → W
     → Type 0
-RanAll left failed held write_failed limit a (commands.Check subject goal base step) files w result
-    others made =
+RanAll left failed held write_failed limit own (commands.Check subject goal base step) files w
+    result others made =
     let count = file_count subject in
-    RunsGoal left failed left failed held write_failed limit (subject_of a subject) goal base step
+    RunsGoal left failed left failed held write_failed limit (subject_of own subject) goal base step
     (take count files) (drop count files) w result (take count others) (drop count others) made
-RanAll left failed held write_failed limit a (commands.Print q) (r ∷ files) w result (rest ∷ others)
-    made =
-    RunsQuestion left failed held write_failed limit (file_subject a) q r w result rest made
-RanAll left failed held write_failed limit a (commands.Obligations optimize) (r ∷ s ∷ []) w result
-    (rest ∷ other ∷ []) made =
-    RunsObligations left failed held write_failed limit (file_subject a) optimize r s w result rest
-    other made
-RanAll left failed held write_failed limit a (commands.Obligation condition optimize) (r ∷ s ∷ []) w
+RanAll left failed held write_failed limit own (commands.Print q) (r ∷ files) w result
+    (rest ∷ others) made =
+    RunsQuestion left failed held write_failed limit own q r w result rest made
+RanAll left failed held write_failed limit own (commands.Obligations optimize) (r ∷ s ∷ []) w
     result (rest ∷ other ∷ []) made =
-    RunsObligation left failed left failed held write_failed limit (file_subject a) condition
-    optimize r s w result rest other made
-RanAll left failed held write_failed limit a (commands.Simulated optimize)
+    RunsObligations left failed held write_failed limit own optimize r s w result rest other made
+RanAll left failed held write_failed limit own (commands.Obligation condition optimize)
+    (r ∷ s ∷ []) w result (rest ∷ other ∷ []) made =
+    RunsObligation left failed left failed held write_failed limit own condition optimize r s w
+    result rest other made
+RanAll left failed held write_failed limit own (commands.Simulated optimize)
     (r ∷ s ∷ reset ∷ transition ∷ property ∷ base ∷ step ∷ []) w result
     (rest ∷ other ∷ reset_rest ∷ transition_rest ∷ property_rest ∷ base_rest ∷ step_rest ∷ [])
     made =
-    RunsSimulated left failed left failed left failed held write_failed limit (file_subject a)
-    optimize r s (proofs_of reset transition property base step) w result rest other
+    RunsSimulated left failed left failed left failed held write_failed limit own optimize r s
+    (proofs_of reset transition property base step) w result rest other
     (proofs_of reset_rest transition_rest property_rest base_rest step_rest) made
-RanAll left failed held write_failed limit None (commands.File c) (r ∷ p ∷ []) w result
+RanAll left failed held write_failed limit Own (commands.File c) (r ∷ p ∷ []) w result
     (rest ∷ used ∷ []) made =
     Runs left failed left failed held write_failed c limit r p w result rest used made
-RanAll left failed held write_failed limit a c files w result others made = ⊥
+RanAll left failed held write_failed limit own c files w result others made = ⊥
 
 abbrev pub RanOn : {F W : Type 0} → (F → Option (List ℕ)) → (F → Bool) → (W → Option (List ℕ))
     → (W → Bool) → ℕ → Asked → List F → W → Result Unit CheckError → List F → W → Type 0
 RanOn left failed held write_failed limit c files w result others made =
-    RanAll left failed held write_failed limit c.justice c.command files w result others made
+    RanAll left failed held write_failed limit c.subject c.command files w result others made
 
 -- What is done with the files at the paths, which are opened first, in order: FILE, the file beside
 -- it, and what the words name beside these. Where one isn't opened, that is the error, and nothing

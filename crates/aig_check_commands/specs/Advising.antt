@@ -11,9 +11,9 @@ use Rattle.aig_answers.specs.declared.plans.errors.PlanError.{PlanError}
 use Rattle.aig_answers.specs.declared.plans.errors.PlanError.TheVariants as plans
 use Rattle.aig_answers.specs.declared.plans.errors.Why.{Why}
 use Rattle.aig_answers.specs.declared.plans.errors.Why.TheVariants as whys
-use Rattle.aig_simulated.specs.declared.error.ConditionError.{ConditionError}
-use Rattle.aig_simulated.specs.declared.error.ConditionError.TheVariants as conditions
-use Rattle.aig_simulated.specs.declared.error.SimulationError.TheVariants as simulation
+use Rattle.aig_witness_circuit_checks.specs.declared.error.ConditionError.{ConditionError}
+use Rattle.aig_witness_circuit_checks.specs.declared.error.ConditionError.TheVariants as conditions
+use Rattle.aig_witness_circuit_checks.specs.declared.error.SimulationError.TheVariants as simulation
 use Rattle.aig_check_commands.specs.declared.error.CheckError.{CheckError}
 use Rattle.aig_check_commands.specs.declared.error.CheckError.TheVariants as errors
 

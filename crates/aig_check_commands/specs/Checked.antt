@@ -5,7 +5,7 @@ use Rattle.aig_answers.specs.Goals.{ChecksGoal}
 use Rattle.aig_answers.specs.declared.goals.error.GoalFault.{GoalFault}
 use Rattle.aig_answers.specs.declared.goals.goal.Goal.{Goal}
 use Rattle.aig_subjects.specs.declared.subject.Subject.{Subject}
-use Rattle.aig_check_commands.specs.Goals.{line_of}
+use Rattle.aig_check_commands.specs.FileSubjects.{line_of}
 use Rattle.aig_check_commands.specs.Printed.{Printed}
 use Rattle.aig_check_commands.specs.declared.error.CheckError.{CheckError}
 use Rattle.aig_check_commands.specs.declared.error.CheckError.TheVariants as errors

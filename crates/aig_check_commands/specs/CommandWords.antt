@@ -31,9 +31,9 @@ use Rattle.aig_answers.specs.declared.goals.goal.Goal.TheVariants as goals
 use Rattle.aig_subjects.specs.declared.subject.FileSubject.TheVariants.{Own}
 use Rattle.aig_subjects.specs.declared.subject.Subject.{Subject}
 use Rattle.aig_subjects.specs.declared.subject.Subject.TheVariants as subjects
-use Rattle.aig_check_commands.specs.Justice.{AreJustice, is_asked}
-use Rattle.aig_simulation.specs.Names.{condition_name}
-use Rattle.aig_simulation.specs.declared.condition.Condition.{Condition}
+use Rattle.aig_check_commands.specs.FileSubjects.{GiveSubject, is_asked}
+use Rattle.aig_witness_circuits.specs.Names.{condition_name}
+use Rattle.aig_witness_circuits.specs.declared.condition.Condition.{Condition}
 
 -- so many paths and a step, so many further paths, `distinct` or nothing where it may be there, and
 -- `raw` or nothing
@@ -226,7 +226,7 @@ abbrev pub under : Constraints → Command → Option Command
 under OfBoth c = Some c
 under constraints c = constrained constraints c
 
--- the words give the limit, then the justice property that is asked about, if there is one, then
+-- the words give the limit, then the circuit of FILE that is asked about, if it isn't its own, then
 -- what constraints say, if it isn't what is usual, and then the command, with its files and what is
 -- given beside them
 pub record IsCall (words : List (List ℕ)) (limit : ℕ) (c : Asked) (paths further : List (List ℕ))
@@ -234,7 +234,7 @@ pub record IsCall (words : List (List ℕ)) (limit : ℕ) (c : Asked) (paths fur
   pub rest : List (List ℕ)
   pub limited : IsLimited words limit rest
   pub more : List (List ℕ)
-  pub asked : AreJustice c.justice rest more
+  pub asked : GiveSubject c.subject rest more
   pub constraints : Constraints
   pub others : List (List ℕ)
   pub said : AreConstraints constraints more others
@@ -242,7 +242,7 @@ pub record IsCall (words : List (List ℕ)) (limit : ℕ) (c : Asked) (paths fur
   pub arguments : Arguments
   pub gives : AreCommand others usual arguments
   pub command : under constraints usual ≡ Some c.command
-  pub allowed : IsTrue (is_asked c.justice c.command)
+  pub allowed : IsTrue (is_asked c.subject c.command)
   pub on : paths ≡ arguments.paths
   pub beside : further ≡ arguments.further
 

@@ -12,10 +12,10 @@ use Rattle.aig_command_line.specs.declared.files.OpenError.TheVariants as openin
 use Rattle.aig_command_line.specs.declared.tally.Measure.{Measure}
 use Rattle.aig_command_line.specs.declared.tally.Place.{Place}
 use Rattle.aig_command_line.specs.declared.tally.Place.TheVariants.{Whole}
-use Rattle.aig_check_commands.specs.declared.subjects.Search.{Search}
-use Rattle.aig_check_commands.specs.declared.subjects.Search.TheVariants as searches
-use Rattle.aig_check_commands.specs.declared.subjects.Subject.{Subject}
-use Rattle.aig_check_commands.specs.declared.subjects.Subject.TheVariants as subjects
+use Rattle.aig_check_commands.specs.declared.refusals.subjects.Search.{Search}
+use Rattle.aig_check_commands.specs.declared.refusals.subjects.Search.TheVariants as searches
+use Rattle.aig_check_commands.specs.declared.refusals.subjects.Subject.{Subject}
+use Rattle.aig_check_commands.specs.declared.refusals.subjects.Subject.TheVariants as subjects
 use Rattle.aig_check_commands.specs.declared.command.Asked.{Asked}
 use Rattle.aig_check_commands.specs.declared.error.CheckError.{CheckError}
 use Rattle.aig_check_commands.specs.Subjects.{about_error}

@@ -7,14 +7,14 @@ use Rattle.aig_check_commands.specs.declared.command.Call.{Call}
 use Rattle.aig_check_commands.specs.declared.command.Command.{Command}
 use Rattle.aig_check_commands.specs.declared.error.CheckError.{CheckError}
 use Rattle.aig_check_commands.specs.declared.error.CheckError.TheVariants as errors
-use Rattle.aig_check_commands.specs.Justice.{is_asked}
+use Rattle.aig_check_commands.specs.FileSubjects.{is_asked}
 use Rattle.aig_check_commands.specs.CommandWords.{beside_of, paths_of, step_of}
 use Rattle.aig_check_commands.specs.Opening.{OpensAll}
 
 -- there is such a command, as many files as it reads, and a step within the bound
 pub record Fits (c : Call) : Type 0 where
   pub limit : IsLimit c.limit
-  pub asked : IsTrue (is_asked c.asked.justice c.asked.command)
+  pub asked : IsTrue (is_asked c.asked.subject c.asked.command)
   pub paths : length c.paths.now ≡ paths_of c.asked.command
   pub further : length c.further.now ≡ beside_of c.asked.command
   pub small : step_of c.asked.command < 2 ^ 32

@@ -1,5 +1,5 @@
 pub mod Bounded
-pub mod Justice
+pub mod FileSubjects
 pub mod CommandWords
 pub mod Comments
 pub mod Titling

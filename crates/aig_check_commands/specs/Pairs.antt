@@ -1,6 +1,6 @@
 -- Part of what is promised.
 -- What a command does that prints the clauses of which the proofs of a certificate are: of FILE's
--- own circuit, or of one that is made of it for a justice property. (DIMACS CNF format.)
+-- own circuit, or of one that is made of it. (DIMACS CNF format.)
 use Rattle.std.specs.Prelude.{◌≡◌, ℕ, Bool, List, [], ◌∷◌, ◌++◌, length, Option, Some, Result, Ok, Err, codes}
 use Rattle.aig_base.specs.declared.logic.literal.Lit.{Lit}
 use Rattle.aig_base.specs.Formula.{clauses_in}
@@ -18,7 +18,8 @@ use Rattle.aig_format.specs.File.{File}
 use Rattle.aig_reader.specs.Verdicts.{Accepted, Verdict}
 use Rattle.aig_runs.specs.declared.window.Window.TheVariants.{Plain}
 use Rattle.aig_subjects.specs.Reads.{ReadsFiles}
-use Rattle.aig_subjects.specs.Subjects.{IsBeside, IsFileSubject, IsUnmade, error_verdicts}
+use Rattle.aig_subjects.specs.FileSubjects.{IsFileSubject}
+use Rattle.aig_subjects.specs.Subjects.{IsBeside, IsUnmade, error_verdicts}
 use Rattle.aig_subjects.specs.declared.subject.FileSubject.{FileSubject}
 use Rattle.aig_subjects.specs.declared.subject.Subject.TheVariants as subjects
 use Rattle.aig_check_commands.specs.Checked.{goal_error}

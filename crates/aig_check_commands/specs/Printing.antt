@@ -12,7 +12,7 @@ use Rattle.aig_encode.specs.declared.encoding.Encoded.{Encoded}
 use Rattle.aig_output.specs.Sinks.{WritesOrStops}
 use Rattle.aig_witness.specs.Checked.{RefusesSolution, SaysWitness}
 use Rattle.aig_check_commands.specs.Titles.{title_text}
-use Rattle.aig_check_commands.specs.declared.titles.title.Title.{Title}
+use Rattle.aig_check_commands.specs.declared.lines.titles.title.Title.{Title}
 use Rattle.aig_witness.specs.Witness.{Witness, witness_text}
 use Rattle.aig_witness.specs.Shown.{IsKnownWitness}
 use Rattle.aig_check_commands.specs.Pairs.{AreSummed, TellsOfJoint, obligation_answer, part_text}
@@ -30,22 +30,23 @@ use Rattle.aig_edits.specs.declared.pair_error.PairError.{PairError}
 use Rattle.aig_format.specs.File.{File}
 use Rattle.aig_runs.specs.WindowClauses.{AsksWindow}
 use Rattle.aig_runs.specs.declared.window.Window.TheVariants.{Plain}
-use Rattle.aig_subjects.specs.Subjects.{IsBeside, IsFileSubject, IsUnjoined, IsUnmade, IsUnmadeFile}
+use Rattle.aig_subjects.specs.FileSubjects.{IsFileSubject, IsUnmadeFile}
+use Rattle.aig_subjects.specs.Subjects.{IsBeside, IsUnjoined, IsUnmade}
 use Rattle.aig_subjects.specs.declared.error.SubjectError.{SubjectError}
 use Rattle.aig_subjects.specs.declared.subject.FileSubject.{FileSubject}
 use Rattle.aig_subjects.specs.declared.subject.Subject.TheVariants as subjects
 use Rattle.aig_check_commands.specs.Questions.{IsQuestionText, question_error}
-use Rattle.aig_simulated.specs.Simulated.{IsNoQuestion, question_in}
-use Rattle.aig_simulated.specs.declared.claim.Claim.{Claim}
-use Rattle.aig_simulated.specs.declared.error.ConditionError.TheVariants as conditions
-use Rattle.aig_simulated.specs.declared.error.SimulationError.TheVariants as simulation
-use Rattle.aig_simulation.specs.declared.condition.Condition.{Condition}
-use Rattle.aig_simulation.specs.declared.error.QuestionError.{QuestionError}
+use Rattle.aig_witness_circuit_checks.specs.Simulated.{IsNoQuestion, question_in}
+use Rattle.aig_witness_circuit_checks.specs.declared.claim.Claim.{Claim}
+use Rattle.aig_witness_circuit_checks.specs.declared.error.ConditionError.TheVariants as conditions
+use Rattle.aig_witness_circuit_checks.specs.declared.error.SimulationError.TheVariants as simulation
+use Rattle.aig_witness_circuits.specs.declared.condition.Condition.{Condition}
+use Rattle.aig_witness_circuits.specs.declared.error.QuestionError.{QuestionError}
 use Rattle.aig_check_commands.specs.Simulating.{IsObligationText}
 use Rattle.aig_check_commands.specs.Sums.{IsSum, summed_text}
 use Rattle.aig_check_commands.specs.declared.error.CheckError.{CheckError}
 use Rattle.aig_check_commands.specs.declared.error.CheckError.TheVariants as errors
-use Rattle.aig_check_commands.specs.declared.pairs.Obligations.{Obligations}
+use Rattle.aig_check_commands.specs.declared.checks.pairs.Obligations.{Obligations}
 
 -- a front is written, and then the clauses of a circuit and further ones, or a beginning of that,
 -- and the clauses are a formula

@@ -1,6 +1,6 @@
 -- Part of what is promised.
 -- What a command does that prints the clauses of a question of a circuit: of FILE's own, or of one
--- that is made of it for a justice property. (DIMACS CNF format; bounded model checking.)
+-- that is made of it. (DIMACS CNF format; bounded model checking.)
 use Rattle.std.specs.Prelude.{◌≡◌, ◌⊎◌, ℕ, Bool, List, [], ◌∷◌, ◌++◌, length, Option, Some, Result, Ok, Err}
 use Rattle.aig_answers.specs.Answers.{IsCircuitQuery, query_with}
 use Rattle.aig_answers.specs.Asking.{AsksOfBads}
@@ -23,7 +23,7 @@ use Rattle.aig_edits.specs.Edits.{IsEditOwn, ReadsFile, edit_verdict}
 use Rattle.aig_format.specs.File.{File}
 use Rattle.aig_reader.specs.Verdicts.{Accepted, Verdict}
 use Rattle.aig_runs.specs.WindowClauses.{AsksWindow}
-use Rattle.aig_subjects.specs.Subjects.{IsFileSubject, IsUnmadeFile}
+use Rattle.aig_subjects.specs.FileSubjects.{IsFileSubject, IsUnmadeFile}
 use Rattle.aig_subjects.specs.declared.subject.FileSubject.{FileSubject}
 use Rattle.aig_subjects.specs.declared.subject.Subject.TheVariants as subjects
 use Rattle.aig_check_commands.specs.declared.error.CheckError.{CheckError}

@@ -15,16 +15,16 @@ use Rattle.aig_format.specs.File.{File}
 use Rattle.aig_reader.specs.declared.error.ReadError.{ReadError}
 use Rattle.aig_refutation.specs.declared.error.RefutationError.TheVariants as refutation
 use Rattle.aig_runs.specs.declared.window.Window.TheVariants.{Plain}
-use Rattle.aig_simulated.specs.Simulated as simulated
-use Rattle.aig_simulated.specs.Simulated.{Certifies, ClaimsNothing, HasBads, IsNoQuestion, IsOfObligation, IsOwn, IsQuestionOf, OfModel, Proofs, proof_for}
-use Rattle.aig_simulated.specs.Witnesses.{ReadsWitness}
-use Rattle.aig_simulated.specs.declared.error.ConditionError.TheVariants as conditions
-use Rattle.aig_simulated.specs.declared.error.SimulationError.TheVariants as simulation
-use Rattle.aig_simulation.specs.declared.condition.Condition.{Condition}
+use Rattle.aig_witness_circuit_checks.specs.Simulated as simulated
+use Rattle.aig_witness_circuit_checks.specs.Simulated.{Certifies, ClaimsNothing, HasBads, IsNoQuestion, IsOfObligation, IsOwn, IsQuestionOf, OfModel, Proofs, proof_for}
+use Rattle.aig_witness_circuit_checks.specs.Witnesses.{ReadsWitness}
+use Rattle.aig_witness_circuit_checks.specs.declared.error.ConditionError.TheVariants as conditions
+use Rattle.aig_witness_circuit_checks.specs.declared.error.SimulationError.TheVariants as simulation
+use Rattle.aig_witness_circuits.specs.declared.condition.Condition.{Condition}
 use Rattle.aig_subjects.specs.declared.subject.FileSubject.{FileSubject}
 use Rattle.aig_check_commands.specs.declared.error.CheckError.{CheckError}
 use Rattle.aig_check_commands.specs.declared.error.CheckError.TheVariants as errors
-use Rattle.aig_check_commands.specs.Goals.{file_line}
+use Rattle.aig_check_commands.specs.FileSubjects.{file_line}
 use Rattle.aig_check_commands.specs.Printed.{Printed}
 use Rattle.aig_check_commands.specs.Sums.{IsSum, summed_text}
 use Rattle.aig_check_commands.specs.Titles.{title_text}

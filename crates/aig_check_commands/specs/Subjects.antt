@@ -36,23 +36,23 @@ use Rattle.aig_witness.specs.declared.fault.WitnessFault.{WitnessFault}
 use Rattle.aig_witness.specs.declared.fault.WitnessFault.TheVariants as faults
 use Rattle.aig_witness.specs.declared.file.ShowError.{ShowError}
 use Rattle.aig_witness.specs.declared.file.ShowError.TheVariants as shows
-use Rattle.aig_simulated.specs.Simulated.{turn_of}
-use Rattle.aig_simulated.specs.declared.error.ConditionError.{ConditionError}
-use Rattle.aig_simulated.specs.declared.error.ConditionError.TheVariants as conditions
-use Rattle.aig_simulated.specs.declared.error.SimulationError.{SimulationError}
-use Rattle.aig_simulated.specs.declared.error.SimulationError.TheVariants as simulation
-use Rattle.aig_simulation.specs.declared.condition.Condition.{Condition}
-use Rattle.aig_simulation.specs.declared.error.QuestionError.TheVariants as asking
-use Rattle.aig_simulation.specs.declared.sharing.error.SharingError.{SharingError}
-use Rattle.aig_simulation.specs.declared.sharing.error.SharingError.TheVariants as sharing
+use Rattle.aig_witness_circuit_checks.specs.Simulated.{turn_of}
+use Rattle.aig_witness_circuit_checks.specs.declared.error.ConditionError.{ConditionError}
+use Rattle.aig_witness_circuit_checks.specs.declared.error.ConditionError.TheVariants as conditions
+use Rattle.aig_witness_circuit_checks.specs.declared.error.SimulationError.{SimulationError}
+use Rattle.aig_witness_circuit_checks.specs.declared.error.SimulationError.TheVariants as simulation
+use Rattle.aig_witness_circuits.specs.declared.condition.Condition.{Condition}
+use Rattle.aig_witness_circuits.specs.declared.error.QuestionError.TheVariants as asking
+use Rattle.aig_witness_circuits.specs.declared.sharing.error.SharingError.{SharingError}
+use Rattle.aig_witness_circuits.specs.declared.sharing.error.SharingError.TheVariants as sharing
 use Rattle.aig_subjects.specs.declared.error.SubjectError.{SubjectError}
 use Rattle.aig_subjects.specs.declared.error.SubjectError.TheVariants as refusals
 use Rattle.aig_subjects.specs.declared.subject.Subject as of
 use Rattle.aig_subjects.specs.declared.subject.Subject.TheVariants as asked
-use Rattle.aig_check_commands.specs.declared.subjects.About.{About}
-use Rattle.aig_check_commands.specs.declared.subjects.Search.TheVariants as searches
-use Rattle.aig_check_commands.specs.declared.subjects.Subject.{Subject}
-use Rattle.aig_check_commands.specs.declared.subjects.Subject.TheVariants as subjects
+use Rattle.aig_check_commands.specs.declared.refusals.subjects.About.{About}
+use Rattle.aig_check_commands.specs.declared.refusals.subjects.Search.TheVariants as searches
+use Rattle.aig_check_commands.specs.declared.refusals.subjects.Subject.{Subject}
+use Rattle.aig_check_commands.specs.declared.refusals.subjects.Subject.TheVariants as subjects
 use Rattle.aig_check_commands.specs.declared.error.CheckError.{CheckError}
 use Rattle.aig_check_commands.specs.declared.error.CheckError.TheVariants as errors
 

@@ -7,10 +7,10 @@ use Rattle.aig_answers.specs.declared.plans.asking.Ask.{Ask}
 use Rattle.aig_answers.specs.declared.plans.asking.Ask.TheVariants as asks
 use Rattle.aig_runs.specs.declared.window.Window.{Window}
 use Rattle.aig_runs.specs.declared.window.Window.TheVariants.{Distinct, Plain}
-use Rattle.aig_check_commands.specs.declared.titles.title.Title.{Title}
-use Rattle.aig_check_commands.specs.declared.titles.title.Topic.{Topic}
-use Rattle.aig_check_commands.specs.declared.titles.title.Topic.TheVariants.{Asked, Obligation, Obligations}
-use Rattle.aig_simulation.specs.Names.{condition_name}
+use Rattle.aig_check_commands.specs.declared.lines.titles.title.Title.{Title}
+use Rattle.aig_check_commands.specs.declared.lines.titles.title.Topic.{Topic}
+use Rattle.aig_check_commands.specs.declared.lines.titles.title.Topic.TheVariants.{Asked, Obligation, Obligations}
+use Rattle.aig_witness_circuits.specs.Names.{condition_name}
 
 -- the word of windows on which no state comes twice
 abbrev pub form_text : Window → List ℕ

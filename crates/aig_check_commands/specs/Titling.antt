@@ -2,9 +2,9 @@
 -- The titles of the texts that commands print.
 use Rattle.std.specs.Prelude.{ℕ, Bool, List, Some, None}
 use Rattle.aig_answers.specs.declared.plans.asking.Question.{Question}
-use Rattle.aig_check_commands.specs.declared.titles.title.Topic.TheVariants.{Asked, Obligation, Obligations}
-use Rattle.aig_check_commands.specs.declared.titles.title.Title.{Title}
-use Rattle.aig_simulation.specs.declared.condition.Condition.{Condition}
+use Rattle.aig_check_commands.specs.declared.lines.titles.title.Topic.TheVariants.{Asked, Obligation, Obligations}
+use Rattle.aig_check_commands.specs.declared.lines.titles.title.Title.{Title}
+use Rattle.aig_witness_circuits.specs.declared.condition.Condition.{Condition}
 
 -- the title of a question of a circuit whose text has this sum
 abbrev pub title_of : Question → List ℕ → Title

@@ -8,16 +8,16 @@ ghost use Rattle.aig_check_commands.specs.Help.{answer_of};
 ghost use Rattle.aig_check_commands.specs.Fits.{Fits};
 ghost use Rattle.aig_check_commands.specs.Opening.{unopened};
 
+use crate::checks::running::run;
 use crate::command::{Call, USAGE, call_of};
 use crate::error::CheckError;
 use crate::inputs::open_all;
-use crate::running::run;
 use aig_base::{MemoryError, Sink};
 use aig_command_line::{Ending, Flush, Help, OpenError, Opens, asked, write_text};
 use std::alloc::Global;
 
 /// The program's version.
-pub const VERSION: &str = "aigcheck 0.1.0";
+pub const VERSION: &str = "aigcheck 1.0.0";
 
 /// What a file that isn't opened is refused for.
 impl From<OpenError> for CheckError {

@@ -7,15 +7,15 @@ ghost use Rattle.aig_check_commands.specs.Fits.{Fits};
 ghost use Rattle.aig_check_commands.specs.CommandWords.{AreCommand, FitNone, Give, IsAlone, IsCall, IsOnWitness, IsWhole, beside_of, check_of, command_of, compared_under, constrained, equal_name, form_of, has_two_settings, name_of, of_both, on_certificate, on_step, path_count, paths_of, raw_alone, raw_word, step_of, under, window_of, witness_form, witness_name};
 ghost use Rattle.aig_check_commands.specs.declared.command.Asked.{Asked};
 ghost use Rattle.aig_check_commands.specs.declared.command.Command.{Command};
-ghost use Rattle.aig_simulation.specs.Names.{condition_name};
-ghost use Rattle.aig_simulation.specs.declared.condition.Condition.{Condition};
+ghost use Rattle.aig_witness_circuits.specs.Names.{condition_name};
+ghost use Rattle.aig_witness_circuits.specs.declared.condition.Condition.{Condition};
 
-use crate::justice::{Justice, is_asked, is_word, justice_first};
+use crate::file_subjects::{is_asked, is_word, subject_first};
 use aig_answers::{Ask, Goal, Question, Window, asked_with};
 use aig_command_line::{ArgumentForm, Given, HasArguments, Step, find, limited};
 use aig_edits::{Comparison, Constraints, Matching, Starts, constraints_first};
-use aig_simulated::Condition;
 use aig_subjects::{FileSubject, Subject};
+use aig_witness_circuit_checks::Condition;
 
 /// What the program is asked to do with a file.
 #[derive(Clone, Copy)]
@@ -75,19 +75,18 @@ pub enum Command {
     },
 }
 
-/// What the program is asked to do, and of which property of FILE.
+/// What the program is asked to do, and of which circuit of FILE.
 #[derive(Clone, Copy)]
 pub struct Asked {
-    /// The justice property of FILE that is asked about, or none where it is the bad states. The command is then on the file that is made
-    /// of FILE for it.
-    pub justice: Option<Justice>,
+    /// The circuit of FILE that is asked about.
+    pub subject: FileSubject,
     /// The command.
     pub command: Command,
 }
 
 /// How the program is used.
 pub const USAGE: &str =
-    "usage: aigcheck [--limit N] [--justice J [--rounds N]] clauses FILE K [raw], window FILE K [distinct] [raw], \
+    "usage: aigcheck [--limit N] [--property N | --possible | --outputs | (--justice J | --endless) [--rounds N]] clauses FILE K [raw], window FILE K [distinct] [raw], \
     refuted FILE K PROOF [raw], inductive FILE K PROOF [distinct] [raw], witness FILE K SOLUTION [raw], run FILE WITNESS, \
     certified FILE CERT BASE STEP [raw], [--constraints first|compared] equal FILE OTHER K PROOF [raw], \
     obligations FILE CERT [raw], \
@@ -367,7 +366,7 @@ impl Action {
 pub struct Call<'a> {
     /// The limit on the nodes of a circuit.
     pub limit: usize,
-    /// The command, and the property.
+    /// The command, and the circuit of FILE.
     pub asked: Asked,
     /// FILE, and CERT, OTHER or a witness circuit, where the command wants one.
     pub paths: &'a [String],
@@ -584,10 +583,11 @@ fn under(constraints: Constraints, command: Command) -> Option<Command>
     }
 }
 
-/// What the words after the program's name give, or none where they are wrong: N of `--limit N`, or 2^24, then J of `--justice J`, and N of
-/// `--rounds N`, where these come, then `first` or `compared` of `--constraints`, where it comes, and then the command and what it takes.
-/// Only a command that compares has these constraints. Words that fit no command may end with `raw-base` or `raw-step` behind those of
-/// `safe` or of `equal` with `to`, without `raw`. It takes no memory.
+/// What the words after the program's name give, or none where they are wrong: N of `--limit N`, or 2^24, then the circuit of FILE, by
+/// `--property` and N, `--possible`, `--outputs`, or `--justice` and J or `--endless`, and `--rounds` and N, where these come, then `first` or `compared`
+/// of `--constraints`, where it comes, and then the command and what it takes. Only a command that compares has these constraints. Words
+/// that fit no command may end with `raw-base` or `raw-step` behind those of `safe` or of `equal` with `to`, without `raw`. It takes no
+/// memory.
 pub fn call_of(words: &[String]) -> Option<Call<'_>>
     ensures some { IfSome result (λ c. IsCall (map string_bytes words.now) c.limit c.asked
         (map string_bytes c.paths.now) (map string_bytes c.further.now)) }
@@ -596,16 +596,16 @@ pub fn call_of(words: &[String]) -> Option<Call<'_>>
     ensures fits { IfSome result Fits }
 {
     let (limit, rest) = limited(words)?;
-    let (justice, rest) = justice_first(rest)?;
+    let (subject, rest) = subject_first(rest)?;
     let (constraints, rest) = constraints_first(rest)?;
     let (usual, given) = command_first(rest)?;
     let command = under(constraints, usual)?;
-    if !is_asked(justice, command) {
+    if !is_asked(subject, command) {
         return None;
     }
     Some(Call {
         limit,
-        asked: Asked { justice, command },
+        asked: Asked { subject, command },
         paths: given.paths,
         further: given.further,
     })
@@ -613,18 +613,18 @@ pub fn call_of(words: &[String]) -> Option<Call<'_>>
 
 /// What the words after the program's name ask for, or none where they are wrong.
 ///
-/// The words `--limit` and N may come first, and then `--justice` and J, and then `--rounds` and N. The word after the command's name is
-/// FILE. The next is WITNESS of `run`, CERT of `certified` and `obligations`, and OTHER of `equal`. Then comes K, where the command has
-/// one, after the word `to` where it is on the steps up to K, and the words after that are PROOF of `refuted`, `inductive` and `equal`,
-/// SOLUTION of `witness`, and BASE and STEP of `certified`, `safe` and `equal` with `to`. Of `equal` with the word `by` it is CERT, BASE
-/// and STEP that come after that, and of `safe` with the words `each` and K it is P0 to PK, one for each of the steps 0 to K, and STEP. The
-/// words `distinct` and `raw` may come last, where the command may have them, and in place of `raw` the word `raw-base` or `raw-step` of
-/// `safe` and of `equal` with `to`: the clauses of BASE alone, or those of all of P0 to PK, are then raw, or those of STEP alone. With a
-/// witness circuit in the place of CERT the words after it are five proofs of `certified`, one for each condition, and the name of a
-/// condition of `obligations`. In place of `equal` the word `equal-alike-by-order` or `equal-alike-by-name` says how registers with open
-/// start begin. Right before the name of such a command two words may say what constraints say: after `--constraints first` runs meet those
-/// of FILE alone, and after `--constraints compared` the constraints of both are compared, too. Without these words runs meet those of
-/// both. It takes no memory.
+/// The words `--limit` and N may come first, and then `--property` and N, `--possible`, `--outputs`, or `--justice` and J or `--endless`, and then
+/// `--rounds` and N. The word after the command's name is FILE. The next is WITNESS of `run`, CERT of `certified` and `obligations`, and
+/// OTHER of `equal`. Then comes K, where the command has one, after the word `to` where it is on the steps up to K, and the words after
+/// that are PROOF of `refuted`, `inductive` and `equal`, SOLUTION of `witness`, and BASE and STEP of `certified`, `safe` and `equal` with
+/// `to`. Of `equal` with the word `by` it is CERT, BASE and STEP that come after that, and of `safe` with the words `each` and K it is P0
+/// to PK, one for each of the steps 0 to K, and STEP. The words `distinct` and `raw` may come last, where the command may have them, and in
+/// place of `raw` the word `raw-base` or `raw-step` of `safe` and of `equal` with `to`: the clauses of BASE alone, or those of all of P0 to
+/// PK, are then raw, or those of STEP alone. With a witness circuit in the place of CERT the words after it are five proofs of `certified`,
+/// one for each condition, and the name of a condition of `obligations`. In place of `equal` the word `equal-alike-by-order` or
+/// `equal-alike-by-name` says how registers with open start begin. Right before the name of such a command two words may say what
+/// constraints say: after `--constraints first` runs meet those of FILE alone, and after `--constraints compared` the constraints of both
+/// are compared, too. Without these words runs meet those of both. It takes no memory.
 pub fn parse(words: &[String]) -> Option<Asked>
     ensures exact { (c : Asked) → (result ≡ Some c) ↔ Give (map string_bytes words.now) c }
     ensures small { IfSome result (λ c. step_of c.command < 2 ^ 32) }

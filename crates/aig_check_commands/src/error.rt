@@ -7,8 +7,8 @@ ghost use Rattle.aig_check_commands.specs.declared.error.CheckError.TheVariants 
 use aig_answers::{AnswerError, BoundedAnswerError, GoalError};
 use aig_base::{MemoryError, StreamFault};
 use aig_edits::EditError;
-use aig_simulated::SimulationError;
 use aig_witness::{ClaimError, LassoFault, ShowError, SolutionError};
+use aig_witness_circuit_checks::SimulationError;
 use thiserror::Error;
 
 /// Why the program doesn't do what was asked.

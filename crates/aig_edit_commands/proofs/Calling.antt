@@ -14,6 +14,7 @@ use Rattle.aig_command_line.specs.Limits.{IsLimited}
 use Rattle.aig_command_line.proofs.Apart as apart
 use Rattle.aig_format.specs.Text.{IsNumber, value_of}
 use Rattle.aig_command_line.proofs.Limits.{asked_alone, one_limit}
+use Rattle.aig_edit_laws.specs.declared.fairness.Fairness.TheVariants.{Justice}
 use Rattle.aig_edits.proofs.ConstraintWords.{one_constraints}
 use Rattle.aig_edits.specs.Words.{AreConstraints}
 use Rattle.aig_edits.specs.declared.pairing.Pairing.TheVariants as pairings
@@ -90,7 +91,8 @@ module _ (word : List ℕ) (words : List (List ℕ)) (are : words ≡ word ∷ [
 one_command : (a : Action) (k : ℕ) (further : List (List ℕ)) (c d : Command)
     → IsCommandOf a k further c → IsCommandOf a k further d → c ≡ d
 one_command actions.Rounds k further c d g h =
-    g.2 ∙ ap (λ n. commands.File (files.Rounds k n)) (one_number g.0 h.0 further g.1 h.1) ∙ sym h.2
+    g.2 ∙ ap (λ n. commands.File (files.Rounds (Justice k) n)) (one_number g.0 h.0 further g.1 h.1)
+    ∙ sym h.2
 one_command a k further c d g h = g ∙ sym h
 
 -- a command is run on as many files as come after its name

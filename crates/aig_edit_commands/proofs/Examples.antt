@@ -14,6 +14,7 @@ use Rattle.aig_command_line.specs.declared.notice.Regard.{Regard}
 use Rattle.aig_command_line.specs.declared.placed.Placed.{Placed}
 use Rattle.aig_command_line.specs.declared.status.Ending.TheVariants as endings
 use Rattle.aig_command_line.specs.declared.tally.Place.TheVariants as places
+use Rattle.aig_edit_laws.specs.declared.fairness.Fairness.TheVariants.{Justice}
 use Rattle.aig_edits.specs.declared.edit_error.EditError.TheVariants as edit
 use Rattle.aig_edits.specs.declared.pair_error.PairError.{PairError}
 use Rattle.aig_edits.specs.declared.pair_error.PairError.TheVariants as pair
@@ -81,7 +82,7 @@ rounds_words file = codes "rounds" ∷ file ∷ codes "1" ∷ codes "2" ∷ []
 
 -- two rounds of justice property 1
 rounds_call : (file : List ℕ)
-    → IsCall (rounds_words file) (2 ^ 24) (commands.File (files.Rounds 1 2)) (file ∷ [])
+    → IsCall (rounds_words file) (2 ^ 24) (commands.File (files.Rounds (Justice 1) 2)) (file ∷ [])
 rounds_call file = record {
   rest = rounds_words file;
   limited = usual (rounds_words file)
@@ -107,7 +108,7 @@ rounds_call file = record {
     distinct = λ is. is;
     raw = λ is. is;
   };
-  usual = commands.File (files.Rounds 1 2);
+  usual = commands.File (files.Rounds (Justice 1) 2);
   command = (2, (codes "2", refl, number_2), refl);
   compares = refl;
   on = refl;
@@ -115,19 +116,20 @@ rounds_call file = record {
 
 -- both numbers are turned round
 no_numbers_turned : (file : List ℕ) (limit : ℕ) (paths : List (List ℕ))
-    → ¬ IsCall (rounds_words file) limit (commands.File (files.Rounds 2 1)) paths
+    → ¬ IsCall (rounds_words file) limit (commands.File (files.Rounds (Justice 2) 1)) paths
 no_numbers_turned file limit paths call =
-    let same = one_call (rounds_words file) limit (2 ^ 24) (commands.File (files.Rounds 2 1))
-    (commands.File (files.Rounds 1 2)) paths (file ∷ []) call (rounds_call file) in
+    let same =
+    one_call (rounds_words file) limit (2 ^ 24) (commands.File (files.Rounds (Justice 2) 1))
+    (commands.File (files.Rounds (Justice 1) 2)) paths (file ∷ []) call (rounds_call file) in
     let property : 2 ≡ 1 = ap property_of same.1 in
     omega (arith, property)
   where
     property_of : Command → ℕ
-    property_of (commands.File (files.Rounds j n)) = j
+    property_of (commands.File (files.Rounds (Justice j) n)) = j
     property_of c = 0
 
 -- the number of rounds is left out, and taken for 0
-no_count : ¬ IsCommandOf actions.Rounds 1 [] (commands.File (files.Rounds 1 0))
+no_count : ¬ IsCommandOf actions.Rounds 1 [] (commands.File (files.Rounds (Justice 1) 0))
 no_count given = let none : 0 ≡ 1 = ap length given.1.1 in omega (arith, none)
 
 abbrev join_words : List (List ℕ)
@@ -364,7 +366,7 @@ join-lines : lines_of (codes "aigedit") two_paths
 join-lines = refl
 
 -- justice is told as left out where the file is made of it
-no_justice_left_out : regard_of (commands.File (files.Live 0))
+no_justice_left_out : regard_of (commands.File (files.Live (Justice 0)))
     ≢ regard_of (commands.File (files.Question 0))
 no_justice_left_out same = false≢true (ap (λ (regard : Regard). regard.leaves_out) same)
 

@@ -48,9 +48,9 @@ module _ {W : Type 0} (held : W → Option (List ℕ)) (write_failed : W → Boo
       (m, is, appends_kept (held w) (held made) (held flat) _ grows keeps, sound)
   print_flushed (files.Question k) f u sound (m, asks, grows, was) =
       (m, asks, appends_kept (held w) (held made) (held flat) _ grows keeps, sound)
-  print_flushed (files.Live j) f u sound (m, is, grows, was) =
+  print_flushed (files.Live fairness) f u sound (m, is, grows, was) =
       (m, is, appends_kept (held w) (held made) (held flat) _ grows keeps, sound)
-  print_flushed (files.Rounds j count) f u sound (m, is, grows, was) =
+  print_flushed (files.Rounds fairness count) f u sound (m, is, grows, was) =
       (m, is, appends_kept (held w) (held made) (held flat) _ grows keeps, sound)
   print_flushed files.Info f u sound (text, is, grows, was) =
       (text, is, appends_kept (held w) (held made) (held flat) text grows keeps, sound)
@@ -62,6 +62,7 @@ module _ {W : Type 0} (held : W → Option (List ℕ)) (write_failed : W → Boo
       (m, written.edit_of, stops _ grows lost)
   print_unflushed files.Reduction f u lost (m, is, grows, was) = (m, is, stops _ grows lost)
   print_unflushed (files.Question k) f u lost (m, asks, grows, was) = (m, asks, stops _ grows lost)
-  print_unflushed (files.Live j) f u lost (m, is, grows, was) = (m, is, stops _ grows lost)
-  print_unflushed (files.Rounds j count) f u lost (m, is, grows, was) = (m, is, stops _ grows lost)
+  print_unflushed (files.Live fairness) f u lost (m, is, grows, was) = (m, is, stops _ grows lost)
+  print_unflushed (files.Rounds fairness count) f u lost (m, is, grows, was) =
+      (m, is, stops _ grows lost)
   print_unflushed files.Info f u lost (text, is, grows, was) = (text, is, stops text grows lost)

@@ -136,9 +136,10 @@ abbrev pub PrintsOfFile : {W : Type 0} → (W → Option (List ℕ)) → (W → 
 PrintsOfFile held failed limit (files.Edit edit) w made = PrintsEdit held failed edit limit w made
 PrintsOfFile held failed limit files.Reduction w made = PrintsReduction held failed w made
 PrintsOfFile held failed limit (files.Question k) w made = PrintsQuestion held failed k limit w made
-PrintsOfFile held failed limit (files.Live j) w made = PrintsLive held failed j w made
-PrintsOfFile held failed limit (files.Rounds j count) w made = PrintsRounds held failed j count w
-    made
+PrintsOfFile held failed limit (files.Live fairness) w made =
+    PrintsLive held failed fairness w made
+PrintsOfFile held failed limit (files.Rounds fairness count) w made =
+    PrintsRounds held failed fairness count w made
 PrintsOfFile held failed limit files.Info w made = PrintsInfo held failed w made
 
 -- the place of an error: where reading the file stopped, or the file as a whole

@@ -5,6 +5,7 @@ use Rattle.aig_command_line.specs.declared.arguments.ArgumentForm.{ArgumentForm}
 use Rattle.aig_command_line.specs.declared.arguments.Step.TheVariants.{At}
 use Rattle.aig_command_line.specs.Arguments.{AreStep, Arguments, GivesArguments, of_paths}
 use Rattle.aig_command_line.specs.Limits.{IsLimited}
+use Rattle.aig_edit_laws.specs.declared.fairness.Fairness.TheVariants.{Justice}
 use Rattle.aig_edits.specs.Words.{AreConstraints}
 use Rattle.aig_edits.specs.declared.editing.Edit.{Edit}
 use Rattle.aig_edits.specs.declared.editing.Edit.TheVariants as edits
@@ -76,8 +77,8 @@ command_of actions.Possible k = edit_by edits.Possible
 command_of actions.Reduce k = commands.File files.Reduction
 command_of actions.Cone k = edit_by (edits.Cone k)
 command_of actions.Question k = commands.File (files.Question k)
-command_of actions.Live k = commands.File (files.Live k)
-command_of actions.Rounds k = commands.File (files.Rounds k 0)
+command_of actions.Live k = commands.File (files.Live (Justice k))
+command_of actions.Rounds k = commands.File (files.Rounds (Justice k) 0)
 command_of actions.Info k = commands.File files.Info
 command_of (actions.Miter starts) k =
     commands.Pair (pairings.Miter (record { starts = starts; constraints = OfBoth }))
@@ -87,7 +88,8 @@ command_of actions.Merge k = commands.Pair pairings.Merge
 -- the command, with its numbers: of `rounds` the second is the further word, and no other takes one
 abbrev pub IsCommandOf : Action → ℕ → List (List ℕ) → Command → Type 0
 IsCommandOf actions.Rounds k further c =
-    (count : ℕ) × AreStep At count further × (c ≡ commands.File (files.Rounds k count))
+    (count : ℕ) × AreStep At count further
+    × (c ≡ commands.File (files.Rounds (Justice k) count))
 IsCommandOf action k further c = c ≡ command_of action k
 
 -- the command with constraints that say this, where it compares

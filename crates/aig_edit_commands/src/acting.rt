@@ -36,7 +36,7 @@ use std::alloc::Global;
 use thiserror::Error;
 
 /// Its version.
-pub const VERSION: &str = "aigedit 0.1.0";
+pub const VERSION: &str = "aigedit 1.0.0";
 
 /// Why the program ends with status 1.
 #[derive(Clone, Copy, Debug, PartialEq, Eq, Error)]
@@ -83,8 +83,10 @@ fn write_made<W: Sink>(
         FileCommand::Edit(edit) => write_edit(edit, lists, limit, w),
         FileCommand::Reduction => write_reduction(alloc, &CircuitView::new(&lists), w),
         FileCommand::Question(k) => write_question(alloc, *k, &CircuitView::new(&lists), limit, w),
-        FileCommand::Live(j) => write_live(alloc, *j, &CircuitView::new(&lists), w),
-        FileCommand::Rounds(j, n) => write_rounds(alloc, *j, *n, &CircuitView::new(&lists), w),
+        FileCommand::Live(fairness) => write_live(alloc, *fairness, &CircuitView::new(&lists), w),
+        FileCommand::Rounds(fairness, n) => {
+            write_rounds(alloc, *fairness, *n, &CircuitView::new(&lists), w)
+        }
         FileCommand::Info => write_info(alloc, &CircuitView::new(&lists), w),
     }
 }

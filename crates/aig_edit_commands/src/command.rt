@@ -8,7 +8,9 @@ ghost use Rattle.aig_edit_commands.specs.CommandWords.{IsCall, IsCommandOf, comm
 ghost use Rattle.aig_edit_commands.specs.declared.command.Command.{Command};
 
 use aig_command_line::{ArgumentForm, HasArguments, Step, find, limited, steps};
-use aig_edits::{Comparison, Constraints, Edit, Matching, Pairing, Starts, constraints_first};
+use aig_edits::{
+    Comparison, Constraints, Edit, Fairness, Matching, Pairing, Starts, constraints_first,
+};
 
 /// How the program is used.
 pub const USAGE: &str =
@@ -26,10 +28,10 @@ pub enum FileCommand {
     Reduction,
     /// Print the question whether a bad state is reached up to this step.
     Question(usize),
-    /// Print the file whose bad states are the fair lassos of this justice property.
-    Live(usize),
-    /// Print the file whose bad states are rounds of this justice property, so many of them.
-    Rounds(usize, usize),
+    /// Print the file whose bad states are the fair lassos.
+    Live(Fairness),
+    /// Print the file whose bad states are rounds, so many of them.
+    Rounds(Fairness, usize),
     /// Print its counts.
     Info,
 }
@@ -189,8 +191,8 @@ impl Action {
             Action::Reduce => Command::File(FileCommand::Reduction),
             Action::Cone => edit_by(Edit::Cone(k)),
             Action::Question => Command::File(FileCommand::Question(k)),
-            Action::Live => Command::File(FileCommand::Live(k)),
-            Action::Rounds => Command::File(FileCommand::Rounds(k, 0)),
+            Action::Live => Command::File(FileCommand::Live(Fairness::Justice(k))),
+            Action::Rounds => Command::File(FileCommand::Rounds(Fairness::Justice(k), 0)),
             Action::Info => Command::File(FileCommand::Info),
             Action::Miter(starts) => Command::Pair(Pairing::Miter(Comparison {
                 starts,
@@ -208,7 +210,10 @@ impl Action {
             → ¬ IsCommandOf self k (map string_bytes further.now) c) }
     {
         match self {
-            Action::Rounds => Some(Command::File(FileCommand::Rounds(k, counted(further)?))),
+            Action::Rounds => {
+                let fairness = Fairness::Justice(k);
+                Some(Command::File(FileCommand::Rounds(fairness, counted(further)?)))
+            }
             _ => Some(self.numbered(k)),
         }
     }

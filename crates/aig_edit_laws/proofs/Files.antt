@@ -1,8 +1,8 @@
 -- A fair lasso of a file's machine and one of its circuit are one.
-use Rattle.aig_base.proofs.Words.{◌≡◌, ℕ, ◌/◌, ◌≤◌, Bool, IsTrue, List, ◌++◌, map, refl, sym, ap, subst, ◌∙◌, arith, All, All-append, All-from_recursion, All-map, recursion_from_All, AllByRecursion, slice_get_within, get_or_from_slice_get}
+use Rattle.aig_base.proofs.Words.{◌≡◌, ℕ, ◌/◌, ◌≤◌, Bool, IsTrue, Some, List, [], map, refl, sym, ap, subst, ◌∙◌, arith, All, All-append, All-nil, same_Some, All-from_recursion, All-map, recursion_from_All, AllByRecursion, slice_get_within, get_or_from_slice_get}
 use Rattle.aig_circuit.specs.declared.edge.AigEdge.{AigEdge}
 use Rattle.aig_circuit.specs.declared.node.AigLatch.{AigLatch}
-use Rattle.aig_circuit.proofs.Words.{Circuit, IsRun, edge_value, AllProperties}
+use Rattle.aig_circuit.proofs.Words.{Circuit, IsRun, Properties, edge_value, AllProperties}
 use Rattle.aig_circuit.proofs.Listed.{AllProperties-weaker}
 use Rattle.aig_circuit.proofs.Lists.{All-from_map}
 use Rattle.aig_format.proofs.Words.{LatchLine, circuit_of, edge_of, latch_of, File, Fits, value_of_literal, IsKnown}
@@ -16,7 +16,9 @@ use Rattle.aig_format_laws.proofs.Starts.{starts_agree}
 use Rattle.aig_live.specs.Met.{IsMet}
 use Rattle.aig_change.specs.Runs.{IsAllowedRun}
 use Rattle.aig_live.specs.Lassos.{IsLasso}
-use Rattle.aig_edit_laws.specs.Fair.{AreAskedBy, IsFairLasso}
+use Rattle.aig_edit_laws.specs.Fair.{AreAsked, AreAskedBy, IsFairLasso, LacksJustice, own_of}
+use Rattle.aig_edit_laws.specs.declared.fairness.Fairness.{Fairness}
+use Rattle.aig_edit_laws.specs.declared.fairness.Fairness.TheVariants.{Alone, Justice}
 use Rattle.aig_edit_laws.specs.Shown.{IsAllowedMachineRun}
 
 module _ (f : File) (limit k : ℕ) (fits : Fits f limit) (literals : List ℕ)
@@ -140,16 +142,30 @@ lasso_back f limit l k literals x fits known lasso =
       fair = met_back f limit k fits literals known x run values l lasso.fair;
     }
 
--- the literals that a justice property asks for are known
-pub asked_known : (f : File) (limit j : ℕ) (literals : List ℕ) → Fits f limit
-    → AreAskedBy f j literals
-    → AllByRecursion (IsKnown f) literals
-asked_known f limit j literals fits asked =
-    let have = (used_by_section (IsKnown f) f (used_known f limit fits)).properties in
-    let at = slice_get_within f.properties.justice j asked.0 asked.1 in
-    let own : All (IsKnown f) asked.0 =
-    subst (All (IsKnown f)) (get_or_from_slice_get f.properties.justice j asked.0 asked.0 asked.1)
-    (have.justice j asked.0 at) in
-    subst (AllByRecursion (IsKnown f)) (sym asked.2)
-    (recursion_from_All (IsKnown f) (asked.0 ++ f.properties.fairness)
-    (All-append (IsKnown f) asked.0 f.properties.fairness own have.fairness))
+-- what holds of all entries of properties holds of those that are asked for
+pub asked_all : {E : Type 0} (P : E → Type 0) (properties : Properties E) (fairness : Fairness)
+    (asked : List E) → AllProperties P properties → AreAsked properties fairness asked
+    → All P asked
+asked_all P properties fairness asked all (own, there, is) =
+    subst (All P) (sym is) (All-append P own properties.fairness (of_own fairness there)
+    all.fairness)
+  where
+    of_own : (fairness : Fairness) → own_of properties fairness ≡ Some own → All P own
+    of_own (Justice j) there =
+        subst (All P) (get_or_from_slice_get properties.justice j own own there)
+        (all.justice j own (slice_get_within properties.justice j own there))
+    of_own Alone there = subst (All P) (same_Some [] own there) (All-nil P)
+
+-- what is asked for isn't of a justice property that is missing
+pub asked_of_some : {E : Type 0} (properties : Properties E) (fairness : Fairness)
+    (asked : List E) → AreAsked properties fairness asked → ¬ LacksJustice properties fairness
+asked_of_some properties (Justice j) asked (own, there, is) none =
+    let within = slice_get_within properties.justice j own there in omega (arith, within, none)
+asked_of_some properties Alone asked are none = none
+
+-- the literals that are asked for are known
+pub asked_known : (f : File) (limit : ℕ) (fairness : Fairness) (literals : List ℕ) → Fits f limit
+    → AreAskedBy f fairness literals → AllByRecursion (IsKnown f) literals
+asked_known f limit fairness literals fits asked =
+    recursion_from_All (IsKnown f) literals (asked_all (IsKnown f) f.properties fairness literals
+    (used_by_section (IsKnown f) f (used_known f limit fits)).properties asked)

@@ -13,6 +13,7 @@ use Rattle.aig_live.proofs.Ending.{run_of, witness_of_run}
 use Rattle.aig_runs.specs.CircuitQueries.{HasCircuitWitness}
 use Rattle.aig_edit_laws.specs.Fair.{AreAskedBy, HasFairRun, IsMetAgain}
 use Rattle.aig_edit_laws.specs.Rounds.{HasMachineRounds, IsMachineRounds}
+use Rattle.aig_edit_laws.specs.declared.fairness.Fairness.{Fairness}
 use Rattle.aig_edit_laws.proofs.Files.{allowed_back, allowed_forth, asked_known}
 use Rattle.aig_edit_laws.proofs.Justice.{asked_same}
 
@@ -96,12 +97,12 @@ module _ (f : File) (limit count k : ℕ) (literals : List ℕ) (fits : Fits f l
         ended = subst (λ n. count ≤ n) (rounds_are x run values) is.ended;
       }
 
-pub bads_are_rounds : (f : File) (limit j count k : ℕ) (literals : List ℕ) (new : Circuit)
-    → Fits f limit → AreAskedBy f j literals
+pub bads_are_rounds : (f : File) (limit : ℕ) (fairness : Fairness) (count k : ℕ) (literals : List ℕ)
+    (new : Circuit) → Fits f limit → AreAskedBy f fairness literals
     → IsRoundsOf (map (edge_of f) literals) count (circuit_of f) new
-    → HasCircuitWitness new k ↔ HasMachineRounds f j count k
-bads_are_rounds f limit j count k literals new fits asked live =
-    let known = asked_known f limit j literals fits asked in
+    → HasCircuitWitness new k ↔ HasMachineRounds f fairness count k
+bads_are_rounds f limit fairness count k literals new fits asked live =
+    let known = asked_known f limit fairness literals fits asked in
     let is = IsCircuit-of_file f limit fits in
     let edges = map (edge_of f) literals in (
       λ has. (
@@ -115,7 +116,7 @@ bads_are_rounds f limit j count k literals new fits asked live =
       ),
       λ has.
           let rounds_run = subst (λ es. IsMachineRounds f es count k has.2.0)
-          (asked_same f j has.0 literals has.1 asked) has.2.1 in
+          (asked_same f fairness has.0 literals has.1 asked) has.2.1 in
           witness_of_run edges count (circuit_of f) new is live k (leaves_of f has.2.0)
           (rounds_forth f limit count k literals fits known has.2.0 rounds_run),
     )
@@ -129,9 +130,9 @@ met_again run [] again e t low = absurd (omega (arith, low))
 met_again run (x ∷ xs) again zero t low = again.0 t
 met_again run (x ∷ xs) again (suc e) t low = met_again run xs again.1 e t (omega (arith, low))
 
-pub fair_runs_reach : (f : File) (j count : ℕ) → HasFairRun f j
-    → (k : ℕ) × HasMachineRounds f j count k
-fair_runs_reach f j count has =
+pub fair_runs_reach : (f : File) (fairness : Fairness) (count : ℕ) → HasFairRun f fairness
+    → (k : ℕ) × HasMachineRounds f fairness count k
+fair_runs_reach f fairness count has =
     let literals = has.0 in
     let run = has.2.0 in
     let fair = has.2.1 in
@@ -158,11 +159,11 @@ fair_runs_reach f j count has =
         by true = omega (arith, h)
         by false = h
 
-pub no_rounds : (f : File) (limit j count : ℕ) (literals : List ℕ) (new : Circuit)
-    → Fits f limit → AreAskedBy f j literals
+pub no_rounds : (f : File) (limit : ℕ) (fairness : Fairness) (count : ℕ) (literals : List ℕ)
+    (new : Circuit) → Fits f limit → AreAskedBy f fairness literals
     → IsRoundsOf (map (edge_of f) literals) count (circuit_of f) new
-    → ((k : ℕ) → ¬ HasCircuitWitness new k) → ¬ HasFairRun f j
-no_rounds f limit j count literals new fits asked live safe has =
-    let reached = fair_runs_reach f j count has in
+    → ((k : ℕ) → ¬ HasCircuitWitness new k) → ¬ HasFairRun f fairness
+no_rounds f limit fairness count literals new fits asked live safe has =
+    let reached = fair_runs_reach f fairness count has in
     safe reached.0
-    ((bads_are_rounds f limit j count reached.0 literals new fits asked live).1 reached.1)
+    ((bads_are_rounds f limit fairness count reached.0 literals new fits asked live).1 reached.1)

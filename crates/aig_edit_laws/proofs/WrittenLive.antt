@@ -25,6 +25,7 @@ use Rattle.aig_live.proofs.Circuits.{live_extended}
 use Rattle.aig_live.proofs.Extended.{IsCircuit-extended, IsClosed-extended, added_named, constant_starts, inputs_are, leaves_are, old_named, past_named, row_low}
 use Rattle.aig_edit_laws.specs.Fair.{AreAskedBy, HasFairLasso, HasFairRun}
 use Rattle.aig_edit_laws.specs.Rounds.{HasMachineRounds}
+use Rattle.aig_edit_laws.specs.declared.fairness.Fairness.{Fairness}
 use Rattle.aig_edit_laws.proofs.Rounds.{bads_are_rounds, no_rounds}
 use Rattle.aig_edit_laws.proofs.Justice.{bads_are_lassos}
 use Rattle.aig_edit_laws.proofs.Naming.{IsName, live_names_are, rounds_names_are}
@@ -193,12 +194,12 @@ read_again f limit inputs nexts bad texts new fits writable ext good small =
 
 pub written-live : ((m : Circuit) (h : File) (k : ℕ) → IsReadAgain m h
     → HasCircuitWitness m k ↔ HasWitness h k)
-    → (f : File) (limit j : ℕ) (literals : List ℕ) (new : Circuit) → Fits f limit
-    → IsWritable (circuit_of f) → AreAskedBy f j literals
+    → (f : File) (limit : ℕ) (fairness : Fairness) (literals : List ℕ) (new : Circuit)
+    → Fits f limit → IsWritable (circuit_of f) → AreAskedBy f fairness literals
     → IsLiveOf (map (edge_of f) literals) (circuit_of f) new → FitsFormat new
     → IsReadAgain new (file_of Text new)
-    × ((k : ℕ) → HasWitness (file_of Text new) k ↔ HasFairLasso f j k)
-written-live written f limit j literals new fits writable asked live small =
+    × ((k : ℕ) → HasWitness (file_of Text new) k ↔ HasFairLasso f fairness k)
+written-live written f limit fairness literals new fits writable asked live small =
     let edges = map (edge_of f) literals in
     let count = length edges in
     let few : count ≤ 2 ^ 64 = omega (arith, live.longer, small.nodes) in
@@ -209,19 +210,20 @@ written-live written f limit j literals new fits writable asked live small =
       again,
       λ k.
           let same = written new (file_of Text new) k again in
-          let shows = bads_are_lassos f limit j k literals new fits asked live in
+          let shows = bads_are_lassos f limit fairness k literals new fits asked live in
           (λ w. shows.0 (same.1 w), λ lasso. same.0 (shows.1 lasso)),
     )
 
 pub written-rounds : ((m : Circuit) (h : File) (k : ℕ) → IsReadAgain m h
     → HasCircuitWitness m k ↔ HasWitness h k)
-    → (f : File) (limit j count : ℕ) (literals : List ℕ) (new : Circuit) → Fits f limit
-    → IsWritable (circuit_of f) → AreAskedBy f j literals
+    → (f : File) (limit : ℕ) (fairness : Fairness) (count : ℕ) (literals : List ℕ)
+    (new : Circuit) → Fits f limit → IsWritable (circuit_of f)
+    → AreAskedBy f fairness literals
     → IsRoundsOf (map (edge_of f) literals) count (circuit_of f) new → FitsFormat new
     → IsReadAgain new (file_of Text new)
-    × ((k : ℕ) → HasWitness (file_of Text new) k ↔ HasMachineRounds f j count k)
-    × (((k : ℕ) → ¬ HasWitness (file_of Text new) k) → ¬ HasFairRun f j)
-written-rounds written f limit j count literals new fits writable asked live small =
+    × ((k : ℕ) → HasWitness (file_of Text new) k ↔ HasMachineRounds f fairness count k)
+    × (((k : ℕ) → ¬ HasWitness (file_of Text new) k) → ¬ HasFairRun f fairness)
+written-rounds written f limit fairness count literals new fits writable asked live small =
     let edges = length (map (edge_of f) literals) in
     let few : edges + count < 2 ^ 64 = omega
     (arith, live.extended.longer, live.nexts_count, small.nodes) in
@@ -230,8 +232,8 @@ written-rounds written f limit j count literals new fits writable asked live sma
       again,
       λ k.
           let same = written new (file_of Text new) k again in
-          let shows = bads_are_rounds f limit j count k literals new fits asked live in
+          let shows = bads_are_rounds f limit fairness count k literals new fits asked live in
           (λ w. shows.0 (same.1 w), λ ended. same.0 (shows.1 ended)),
-      λ safe. no_rounds f limit j count literals new fits asked live
+      λ safe. no_rounds f limit fairness count literals new fits asked live
           (λ k has. safe k ((written new (file_of Text new) k again).0 has)),
     )

@@ -3,10 +3,13 @@
 -- by a run without end on which each of its literals, and each fairness literal, is true again and
 -- again. What a witness of it shows is a lasso: a run of finitely many steps that comes back to a
 -- state.)
-use Rattle.std.specs.Prelude.{◌≡◌, ℕ, ◌≤◌, Bool, IsTrue, Some, List, ◌++◌, slice_get}
+use Rattle.std.specs.Prelude.{◌≡◌, ℕ, ◌≤◌, Bool, IsTrue, Option, Some, List, [], ◌++◌, length, slice_get}
 use Rattle.std.specs.List.{AllByRecursion}
+use Rattle.aig_circuit.specs.Properties.{Properties}
 use Rattle.aig_format.specs.File.{File}
 use Rattle.aig_edit_laws.specs.Shown.{IsAllowedMachineRun}
+use Rattle.aig_edit_laws.specs.declared.fairness.Fairness.{Fairness}
+use Rattle.aig_edit_laws.specs.declared.fairness.Fairness.TheVariants.{Alone, Justice}
 use Rattle.aig_format.specs.Machine.{Moves, value_of_literal}
 use Rattle.aig_live.specs.Met.{IsMet}
 
@@ -29,20 +32,35 @@ pub record IsFairRun (f : File) (literals : List ℕ) (run : ℕ → ℕ → Boo
   pub allowed : (k : ℕ) → IsAllowedMachineRun f k run
   pub fair : AllByRecursion (IsMetAgain run) literals
 
--- the literals that justice property j of a file asks for: its own and those of fairness
-abbrev pub AreAskedBy : File → ℕ → List ℕ → Type 0
-AreAskedBy f j literals =
-    (own : List ℕ) × (slice_get f.properties.justice j ≡ Some own)
-    × (literals ≡ own ++ f.properties.fairness)
+-- the own literals, or edges, of what is asked for: those of a justice property, if there is one;
+-- fairness alone has none
+abbrev pub own_of : {E : Type 0} → Properties E → Fairness → Option (List E)
+own_of properties (Justice j) = slice_get properties.justice j
+own_of properties Alone = Some []
 
--- justice property j has a fair lasso of k + 1 steps
-abbrev pub HasFairLasso : File → ℕ → ℕ → Type 0
-HasFairLasso f j k =
-    (literals : List ℕ) × AreAskedBy f j literals
+-- there is no such justice property
+abbrev pub LacksJustice : {E : Type 0} → Properties E → Fairness → Type 0
+LacksJustice properties (Justice j) = length properties.justice ≤ j
+LacksJustice properties Alone = ⊥
+
+-- what is asked for again and again: the own literals, or edges, and those of fairness
+abbrev pub AreAsked : {E : Type 0} → Properties E → Fairness → List E → Type 0
+AreAsked {E} properties fairness asked =
+    (own : List E) × (own_of properties fairness ≡ Some own)
+    × (asked ≡ own ++ properties.fairness)
+
+-- the same of a file's literals
+abbrev pub AreAskedBy : File → Fairness → List ℕ → Type 0
+AreAskedBy f = AreAsked f.properties
+
+-- there is a fair lasso of k + 1 steps
+abbrev pub HasFairLasso : File → Fairness → ℕ → Type 0
+HasFairLasso f fairness k =
+    (literals : List ℕ) × AreAskedBy f fairness literals
     × ((l : ℕ) × (run : ℕ → ℕ → Bool) × IsFairLasso f literals l k run)
 
--- justice property j has a fair run
-abbrev pub HasFairRun : File → ℕ → Type 0
-HasFairRun f j =
-    (literals : List ℕ) × AreAskedBy f j literals
+-- there is a fair run
+abbrev pub HasFairRun : File → Fairness → Type 0
+HasFairRun f fairness =
+    (literals : List ℕ) × AreAskedBy f fairness literals
     × ((run : ℕ → ℕ → Bool) × IsFairRun f literals run)

@@ -7,6 +7,7 @@ use Rattle.aig_format.specs.File.{File}
 use Rattle.aig_format.specs.Machine.{value_of_literal}
 use Rattle.aig_live.specs.EndedRounds.{rounds}
 use Rattle.aig_edit_laws.specs.Fair.{AreAskedBy}
+use Rattle.aig_edit_laws.specs.declared.fairness.Fairness.{Fairness}
 
 -- A run of k + 1 steps from an initial state, with every constraint at each step, in which so many
 -- rounds end: a round ends with the step by which each of the literals was true in it.
@@ -17,8 +18,8 @@ pub record IsMachineRounds (f : File) (literals : List ℕ) (count k : ℕ) (run
       ≤ rounds (length literals)
       (λ i t. value_of_literal (run t) (slice_index_or literals i 0)) (suc k)
 
--- the literals that justice property j asks for have such a run
-abbrev pub HasMachineRounds : File → ℕ → ℕ → ℕ → Type 0
-HasMachineRounds f j count k =
-    (literals : List ℕ) × AreAskedBy f j literals
+-- there is such a run for the literals that are asked for
+abbrev pub HasMachineRounds : File → Fairness → ℕ → ℕ → Type 0
+HasMachineRounds f fairness count k =
+    (literals : List ℕ) × AreAskedBy f fairness literals
     × ((run : ℕ → ℕ → Bool) × IsMachineRounds f literals count k run)

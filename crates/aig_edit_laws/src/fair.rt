@@ -16,6 +16,7 @@ ghost use Rattle.aig_live.specs.Live.{IsLiveOf, live_size};
 ghost use Rattle.aig_live.specs.Rounds.{IsRoundsOf, rounds_size};
 ghost use Rattle.aig_edit_laws.specs.Fair.{AreAskedBy, HasFairLasso, HasFairRun, IsFairLasso, IsFairRun};
 ghost use Rattle.aig_edit_laws.specs.Rounds.{HasMachineRounds};
+ghost use Rattle.aig_edit_laws.specs.declared.fairness.Fairness.{Fairness};
 
 use crate::written_circuits_have_witnesses;
 
@@ -31,20 +32,23 @@ pub fn fair_runs_come_back()
         → (l : ℕ) × (k : ℕ) × IsFairLasso f literals l k run }
 {}
 
-/// Law: a justice property has a fair run exactly where it has a fair lasso.
+/// Law: there is a fair run exactly where there is a fair lasso.
 pub fn fair_runs_are_lassos()
-    ensures { (f : File) (j : ℕ) → HasFairRun f j ↔ ((k : ℕ) × HasFairLasso f j k) }
+    ensures { (f : File) (fairness : Fairness)
+        → HasFairRun f fairness ↔ ((k : ℕ) × HasFairLasso f fairness k) }
 {}
 
-/// Law: the circuit that is live for the edges of justice property j of a file has a bad state at step k exactly where the
-/// property has a fair lasso of k + 1 steps; and where it has none at any step, the property has no fair run.
+/// Law: the circuit that is live for the edges of what is asked for of a file has a bad state at step k exactly where there is a
+/// fair lasso of k + 1 steps; and where it has none at any step, there is no fair run.
 pub fn live_circuits_show_lassos()
-    ensures step { (f : File) (limit j k : ℕ) (literals : List ℕ) (new : Circuit) → Fits f limit
-        → AreAskedBy f j literals → IsLiveOf (map (edge_of f) literals) (circuit_of f) new
-        → HasCircuitWitness new k ↔ HasFairLasso f j k }
-    ensures none { (f : File) (limit j : ℕ) (literals : List ℕ) (new : Circuit) → Fits f limit
-        → AreAskedBy f j literals → IsLiveOf (map (edge_of f) literals) (circuit_of f) new
-        → ((k : ℕ) → ¬ HasCircuitWitness new k) → ¬ HasFairRun f j }
+    ensures step { (f : File) (limit : ℕ) (fairness : Fairness) (k : ℕ) (literals : List ℕ)
+        (new : Circuit) → Fits f limit → AreAskedBy f fairness literals
+        → IsLiveOf (map (edge_of f) literals) (circuit_of f) new
+        → HasCircuitWitness new k ↔ HasFairLasso f fairness k }
+    ensures none { (f : File) (limit : ℕ) (fairness : Fairness) (literals : List ℕ)
+        (new : Circuit) → Fits f limit → AreAskedBy f fairness literals
+        → IsLiveOf (map (edge_of f) literals) (circuit_of f) new
+        → ((k : ℕ) → ¬ HasCircuitWitness new k) → ¬ HasFairRun f fairness }
 {}
 
 /// Law: a live circuit of a circuit with a written form fits the format where the bound of its size is at most 2^31.
@@ -54,13 +58,13 @@ pub fn small_live_circuits_fit()
 {}
 
 /// Law: the text of a live circuit that fits the format is a file; its machine reaches its bad state at step k exactly where
-/// justice property j has a fair lasso of k + 1 steps.
+/// there is a fair lasso of k + 1 steps.
 pub fn written_live_circuits_show_lassos()
-    ensures { (f : File) (limit j : ℕ) (literals : List ℕ) (new : Circuit) → Fits f limit
-        → IsWritable (circuit_of f) → AreAskedBy f j literals
+    ensures { (f : File) (limit : ℕ) (fairness : Fairness) (literals : List ℕ) (new : Circuit)
+        → Fits f limit → IsWritable (circuit_of f) → AreAskedBy f fairness literals
         → IsLiveOf (map (edge_of f) literals) (circuit_of f) new → FitsFormat new
         → IsReadAgain new (file_of Text new)
-        × ((k : ℕ) → HasWitness (file_of Text new) k ↔ HasFairLasso f j k) }
+        × ((k : ℕ) → HasWitness (file_of Text new) k ↔ HasFairLasso f fairness k) }
 {
     written_circuits_have_witnesses();
 }
@@ -75,21 +79,21 @@ pub fn loops_start_early()
 
 /// Law: on a fair run as many rounds end as one wants.
 pub fn fair_runs_end_rounds()
-    ensures { (f : File) (j count : ℕ) → HasFairRun f j
-        → (k : ℕ) × HasMachineRounds f j count k }
+    ensures { (f : File) (fairness : Fairness) (count : ℕ) → HasFairRun f fairness
+        → (k : ℕ) × HasMachineRounds f fairness count k }
 {}
 
-/// Law: the circuit that counts rounds of the edges of justice property j of a file has a bad state at step k exactly where so
-/// many rounds end in a run of k + 1 steps; and where it has none at any step, the property has no fair run.
+/// Law: the circuit that counts rounds of the edges of what is asked for of a file has a bad state at step k exactly where so
+/// many rounds end in a run of k + 1 steps; and where it has none at any step, there is no fair run.
 pub fn rounds_circuits_show_rounds()
-    ensures step { (f : File) (limit j count k : ℕ) (literals : List ℕ) (new : Circuit)
-        → Fits f limit
-        → AreAskedBy f j literals → IsRoundsOf (map (edge_of f) literals) count (circuit_of f) new
-        → HasCircuitWitness new k ↔ HasMachineRounds f j count k }
-    ensures none { (f : File) (limit j count : ℕ) (literals : List ℕ) (new : Circuit)
-        → Fits f limit
-        → AreAskedBy f j literals → IsRoundsOf (map (edge_of f) literals) count (circuit_of f) new
-        → ((k : ℕ) → ¬ HasCircuitWitness new k) → ¬ HasFairRun f j }
+    ensures step { (f : File) (limit : ℕ) (fairness : Fairness) (count k : ℕ) (literals : List ℕ)
+        (new : Circuit) → Fits f limit → AreAskedBy f fairness literals
+        → IsRoundsOf (map (edge_of f) literals) count (circuit_of f) new
+        → HasCircuitWitness new k ↔ HasMachineRounds f fairness count k }
+    ensures none { (f : File) (limit : ℕ) (fairness : Fairness) (count : ℕ) (literals : List ℕ)
+        (new : Circuit) → Fits f limit → AreAskedBy f fairness literals
+        → IsRoundsOf (map (edge_of f) literals) count (circuit_of f) new
+        → ((k : ℕ) → ¬ HasCircuitWitness new k) → ¬ HasFairRun f fairness }
 {}
 
 /// Law: a circuit that counts rounds of a circuit with a written form fits the format where the bound of its size is at most 2^31.
@@ -100,15 +104,16 @@ pub fn small_rounds_circuits_fit()
 {}
 
 /// Law: the text of a circuit that counts rounds, if it fits the format, is a file; its machine reaches its bad state at step k
-/// exactly where so many rounds of justice property j end in a run of k + 1 steps. Where it never does, for some number of
-/// rounds, the property has no fair run.
+/// exactly where so many rounds of what is asked for end in a run of k + 1 steps. Where it never does, for some number of
+/// rounds, there is no fair run.
 pub fn written_rounds_circuits_show_rounds()
-    ensures { (f : File) (limit j count : ℕ) (literals : List ℕ) (new : Circuit) → Fits f limit
-        → IsWritable (circuit_of f) → AreAskedBy f j literals
+    ensures { (f : File) (limit : ℕ) (fairness : Fairness) (count : ℕ) (literals : List ℕ)
+        (new : Circuit) → Fits f limit → IsWritable (circuit_of f)
+        → AreAskedBy f fairness literals
         → IsRoundsOf (map (edge_of f) literals) count (circuit_of f) new → FitsFormat new
         → IsReadAgain new (file_of Text new)
-        × ((k : ℕ) → HasWitness (file_of Text new) k ↔ HasMachineRounds f j count k)
-        × (((k : ℕ) → ¬ HasWitness (file_of Text new) k) → ¬ HasFairRun f j) }
+        × ((k : ℕ) → HasWitness (file_of Text new) k ↔ HasMachineRounds f fairness count k)
+        × (((k : ℕ) → ¬ HasWitness (file_of Text new) k) → ¬ HasFairRun f fairness) }
 {
     written_circuits_have_witnesses();
 }

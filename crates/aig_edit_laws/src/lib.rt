@@ -3,6 +3,7 @@
 #![tactic(auto)]
 
 mod fair;
+mod fairness;
 mod laws;
 mod plain;
 mod reduction;
@@ -13,6 +14,7 @@ pub use fair::{
     small_live_circuits_fit, small_rounds_circuits_fit, written_live_circuits_show_lassos,
     written_rounds_circuits_show_rounds,
 };
+pub use fairness::Fairness;
 pub use laws::{
     always_bad_runs_are_runs, changed_circuits_keep_witnesses, cones_show_their_output,
     merged_witnesses_are_pairs, outputs_become_bads, properties_show_their_bad,

@@ -1,5 +1,5 @@
 -- What the parts of an edit tell, at each way out of them.
-use Rattle.aig_base.proofs.Words.{◌≡◌, ℕ, Bool, List, [], Option, Some, Result, Ok, Err, refl, sym, ap, subst, All-cons, All-nil, get_or_from_slice_get, slice_get_within}
+use Rattle.aig_base.proofs.Words.{◌≡◌, ℕ, List, [], Some, Result, Ok, Err, sym, ap, subst, All-cons, All-nil, get_or_from_slice_get, slice_get_within}
 use Rattle.std.specs.Prelude.{All, IfErr, IfOk, IsErrOf, slice_get}
 use Rattle.aig_circuit.specs.declared.edge.AigEdge.{AigEdge}
 use Rattle.aig_circuit.specs.declared.view.CircuitLists.{CircuitLists}
@@ -12,7 +12,7 @@ use Rattle.aig_edits.specs.declared.editing.Edit.{Edit}
 use Rattle.aig_edits.specs.declared.edit_error.EditError.{EditError}
 use Rattle.aig_edits.specs.declared.edit_error.EditError.TheVariants as errors
 use Rattle.aig_edits.specs.Edits.{AreStepsWithin, IsEdited}
-use Rattle.aig_edits.specs.EditParts.{CanEditCircuit, Edits, PrintsCircuit, WritesText, Yields}
+use Rattle.aig_edits.specs.EditParts.{CanEditCircuit, Edits, Yields}
 
 -- an error of a result is that one
 pub err_of : {T E : Type 0} (e x : E) → e ≡ x → IsErrOf {T = T} (Err e) x
@@ -103,24 +103,3 @@ yields edit c new (Ok m) is made fault = record {
   fault = tt;
 }
 yields edit c new (Err e) is made fault = record { made = tt; fault = fault }
-
--- ---- its text
-
-module _ {W : Type 0} (held : W → Option (List ℕ)) (failed : W → Bool) (edit : Edit) (limit : ℕ) (c
-    : Circuit) (w : W) where
-  -- no text is written
-  pub unprinted : (e : EditError) → Edits edit limit c (Err e) → PrintsCircuit held failed edit
-      limit c w (Err e) w
-  unprinted errors.Write told = absurd told
-  unprinted errors.TooLarge told = absurd told
-  unprinted e told = (told, refl)
-
-  -- or that of what was made
-  pub printed : (m : CircuitLists) (r : Result (Unit {0}) EditError) (made : W)
-      → Edits edit limit c (Ok m) → WritesText held failed (lists_circuit m) w r made
-      → PrintsCircuit held failed edit limit c w r made
-  printed m (Ok u) made edited told = (m, edited, told)
-  printed m (Err errors.Write) made edited told = (m, edited, told)
-  printed m (Err errors.TooLarge) made edited told = (m, edited, told)
-  printed m (Err (errors.Read e)) made edited told = absurd told
-  printed m (Err e) made edited told = absurd told

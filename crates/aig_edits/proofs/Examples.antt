@@ -20,6 +20,7 @@ use Rattle.aig_edits.specs.declared.misfit.Misfit.TheVariants as misfits
 use Rattle.aig_edits.specs.declared.pairing.Pairing.TheVariants.{Certificate, Miter}
 use Rattle.aig_join.specs.declared.comparison.Comparison.{Comparison}
 use Rattle.aig_edits.specs.Edits.{AreStepsWithin, CanEdit, EditShows, IsEdited, IsEditOwn, IsEditRefusal}
+use Rattle.aig_edit_laws.specs.declared.fairness.Fairness.TheVariants.{Alone, Justice}
 use Rattle.aig_edits.specs.Info.{HasPath, IsDepth, counts_of, info_text}
 use Rattle.aig_edits.specs.Joints.{Counted, DoFit, IsMisfit}
 use Rattle.aig_edits.specs.Lives.{IsLiveRefusal}
@@ -241,13 +242,17 @@ no_path_opened own = own refl
 abbrev fair : File
 fair = record constant { properties = record no_properties { justice = (1 ∷ []) ∷ [] } }
 
-no_justice_1 : IsLiveRefusal 1 fair errors.NoJustice
+no_justice_1 : IsLiveRefusal (Justice 1) fair errors.NoJustice
 no_justice_1 = omega arith
 
-no_live_refused : ¬ IsLiveRefusal 0 fair errors.NoJustice
+no_live_refused : ¬ IsLiveRefusal (Justice 0) fair errors.NoJustice
 no_live_refused is = omega (arith, is)
 
-no_rounds_refused : (count : ℕ) → ¬ IsRoundsRefusal 0 count fair errors.NoJustice
+-- fairness alone needs no property
+none_missing : (f : File) → ¬ IsLiveRefusal Alone f errors.NoJustice
+none_missing f is = is
+
+no_rounds_refused : (count : ℕ) → ¬ IsRoundsRefusal (Justice 0) count fair errors.NoJustice
 no_rounds_refused count is = omega (arith, is)
 
 -- a bad literal is there, and a question of the limit's size isn't refused

@@ -1,15 +1,13 @@
 -- Serves private clauses alone.
 -- What the parts of an edit do.
-use Rattle.std.specs.Prelude.{◌≡◌, ℕ, ◌<◌, ◌≤◌, ◌⊎◌, Bool, false, List, [], length, Option, Result, Ok, Err, IfErr, IfOk}
-use Rattle.std.specs.Io.KnownBytes.{Appends}
+use Rattle.std.specs.Prelude.{◌≡◌, ℕ, ◌<◌, ◌≤◌, ◌⊎◌, [], length, Result, Ok, Err, IfErr, IfOk}
 use Rattle.aig_circuit.specs.Circuit.{Circuit, IsCircuit}
 use Rattle.aig_circuit.specs.View.{lists_circuit}
 use Rattle.aig_circuit.specs.declared.view.CircuitLists.{CircuitLists}
 use Rattle.aig_edit_laws.specs.Plain.{IsPlain}
-use Rattle.aig_format.specs.Circuit.{IsReadAgain, file_of, text_of}
+use Rattle.aig_format.specs.Circuit.{IsReadAgain, file_of}
 use Rattle.aig_format.specs.declared.FileKind.TheVariants.{Text}
 use Rattle.aig_format.specs.Writable.{FitsFormat}
-use Rattle.aig_output.specs.Sinks.{Stops}
 use Rattle.aig_edits.specs.declared.editing.Edit.{Edit}
 use Rattle.aig_edits.specs.declared.editing.Edit.TheVariants as edits
 use Rattle.aig_edits.specs.declared.edit_error.EditError.{EditError}
@@ -51,29 +49,12 @@ Edits edit limit c (Err errors.PassesLimit) =
 Edits edit limit c (Err errors.Memory) = CanEditCircuit edit c × AreStepsWithin edit limit c
 Edits edit limit c (Err e) = ⊥
 
--- ---- its text
-
--- the text was written, if it fits the format, or a beginning of it
-abbrev pub WritesText : {W : Type 0} → (W → Option (List ℕ)) → (W → Bool) → Circuit → W
-    → Result Unit EditError → W → Type 0
-WritesText held failed m w (Ok done) made =
-    FitsFormat m × IsReadAgain m (file_of Text m) × Appends (held w) (held made) (text_of m)
-    × (failed made ≡ false)
-WritesText held failed m w (Err errors.Write) made =
-    FitsFormat m × Stops (held w) (held made) (failed made) (text_of m)
-WritesText held failed m w (Err errors.TooLarge) made = (¬ FitsFormat m) × (made ≡ w)
-WritesText held failed m w (Err e) made = ⊥
-
--- the text of the edited circuit was written, or a beginning of it, or it is said why not
-abbrev pub PrintsCircuit : {W : Type 0} → (W → Option (List ℕ)) → (W → Bool) → Edit → ℕ → Circuit
-    → W → Result Unit EditError → W → Type 0
-PrintsCircuit held failed edit limit c w (Ok done) made =
-    (lists : CircuitLists) × Edits edit limit c (Ok lists)
-    × WritesText held failed (lists_circuit lists) w (Ok done) made
-PrintsCircuit held failed edit limit c w (Err errors.Write) made =
-    (lists : CircuitLists) × Edits edit limit c (Ok lists)
-    × WritesText held failed (lists_circuit lists) w (Err errors.Write) made
-PrintsCircuit held failed edit limit c w (Err errors.TooLarge) made =
-    (lists : CircuitLists) × Edits edit limit c (Ok lists)
-    × WritesText held failed (lists_circuit lists) w (Err errors.TooLarge) made
-PrintsCircuit held failed edit limit c w (Err e) made = Edits edit limit c (Err e) × (made ≡ w)
+-- the edited circuit fits the format, and its text is a file that is read as it; or it is said why
+-- there is none
+abbrev pub MakesEdit : Edit → ℕ → Circuit → Result CircuitLists EditError → Type 0
+MakesEdit edit limit c (Ok lists) =
+    let m = lists_circuit lists in
+    Edits edit limit c (Ok lists) × FitsFormat m × IsReadAgain m (file_of Text m)
+MakesEdit edit limit c (Err errors.TooLarge) =
+    (lists : CircuitLists) × Edits edit limit c (Ok lists) × ¬ FitsFormat (lists_circuit lists)
+MakesEdit edit limit c (Err e) = Edits edit limit c (Err e)

@@ -6,6 +6,8 @@ use Rattle.aig_runs.specs.Safety.{IsSafeAt}
 use Rattle.aig_change.specs.Changes.{CompressesBads, FoldsConstraints}
 use Rattle.aig_circuit.specs.Circuit.{Circuit}
 use Rattle.aig_circuit.specs.Reencode.{reencoded}
+use Rattle.aig_circuit.specs.View.{lists_circuit}
+use Rattle.aig_circuit.specs.declared.view.CircuitLists.{CircuitLists}
 use Rattle.aig_cone.specs.Refine.{AreKept, refined}
 use Rattle.aig_edit_laws.specs.Shown.{HasBadAt, HasBadBy, HasOutput, HasOutputAt, HasRun, HasWitness, IsConeOf, IsPropertyOf, always_bad, outputs_as_bads}
 use Rattle.aig_format.specs.Circuit.{IsReadAgain, circuit_of, file_of, text_of}
@@ -126,6 +128,11 @@ pub record ReadsFile {R T E : Type 0} (left : R → Option (List ℕ)) (failed :
       → IsReadAs (λ bytes. Accepts bytes limit) Means (left r) (left rest) result
   -- which errors it has
   pub own : IfErr result Own
+
+-- the lists are those of the edited circuit, or it is said why there are none
+abbrev pub GivesEdit : Edit → ℕ → File → Result CircuitLists EditError → Type 0
+GivesEdit edit limit f (Ok lists) = IsWrittenEdit edit limit f (lists_circuit lists)
+GivesEdit edit limit f (Err e) = IsEditRefusal edit limit f e
 
 -- the text of the edited circuit was written, and the writer has not failed
 abbrev pub WritesEdit : {W : Type 0} → (W → Option (List ℕ)) → (W → Bool) → Edit → ℕ → W → W

@@ -20,6 +20,7 @@ mod reducing;
 mod rounding;
 mod words;
 
+pub use aig_edit_laws::Fairness;
 pub use aig_join::{Comparison, Constraints, Matching, Starts};
 pub use edit_error::EditError;
 pub use editing::Edit;
@@ -29,7 +30,7 @@ pub use living::{print_live, read_live, write_live};
 pub use misfit::Misfit;
 pub use pair_error::PairError;
 pub use pairing::Pairing;
-pub use printing_edits::{print_edit, write_edit};
+pub use printing_edits::{print_edit, read_edit, write_edit};
 pub use printing_joints::{print_joint, write_joint};
 pub use printing_question::{print_question, write_question};
 pub use printing_reduction::{print_reduction, write_reduction};

@@ -1,20 +1,19 @@
-//! Printing what is made of one file.
+//! Printing what is made of one file, and reading it as lists.
 
-ghost use Rattle.std.specs.Prelude.{◌≡◌, ◌≤◌, ◌^◌, ℕ};
+ghost use Rattle.std.specs.Prelude.{◌≡◌, ◌≤◌, ◌^◌, ℕ, IfOk};
 ghost use Rattle.aig_circuit.specs.Circuit.{Circuit, IsCircuit};
 ghost use Rattle.aig_circuit.specs.View.{lists_circuit};
-ghost use Rattle.aig_edit_laws.specs.Plain.{IsPlain};
 ghost use Rattle.aig_format.specs.Circuit.{IsReadAgain, circuit_of, file_of};
 ghost use Rattle.aig_format.specs.declared.FileKind.TheVariants.{Text};
 ghost use Rattle.aig_format.specs.File.{File};
 ghost use Rattle.aig_format.specs.Fits.{Fits};
-ghost use Rattle.aig_format.specs.Writable.{AreTexts, IsWritable};
+ghost use Rattle.aig_format.specs.Writable.{FitsFormat, IsWritable};
 ghost use Rattle.aig_reader.specs.Reading.{AreListsOf};
 ghost use Rattle.aig_reader.specs.Verdicts.{Accepted, verdict_by};
 ghost use Rattle.aig_edits.specs.declared.editing.Edit.{Edit};
 ghost use Rattle.aig_edit_laws.specs.Reduction.{HaveSameWitnesses};
-ghost use Rattle.aig_edits.specs.Edits.{AreAsSafe, CanEdit, EditShows, IsEditOwn, IsEditUnwritten, IsEdited, PrintsEdit, ReadsFile, edit_verdict};
-ghost use Rattle.aig_edits.specs.EditParts.{PrintsCircuit, WritesText};
+ghost use Rattle.aig_edits.specs.Edits.{AreAsSafe, CanEdit, EditShows, GivesEdit, IsEditOwn, IsEditUnwritten, IsEdited, PrintsEdit, ReadsFile, edit_verdict};
+ghost use Rattle.aig_edits.specs.EditParts.{MakesEdit};
 
 use crate::edit_error::EditError;
 use crate::editing::{Edit, edited};
@@ -67,34 +66,36 @@ fn edited_files_show()
     written_circuits_have_outputs();
 }
 
-/// Writes the text form of a circuit, if it fits the format.
-fn write<W: Sink>(circuit: &CircuitView<'_>, w: &mut W) -> Result<(), EditError>
-    requires plain { IsPlain circuit.now }
-    requires texts { AreTexts circuit.now.names }
-    ensures { WritesText W.held W.failed circuit.now w.old result w.new }
+/// What an edit makes of a circuit, if it fits the format.
+fn fitting(edit: &Edit, circuit: CircuitLists, limit: usize) -> Result<CircuitLists, EditError>
+    requires circuit { IsCircuit (lists_circuit circuit) }
+    requires plain { IsWritable (lists_circuit circuit) }
+    ensures { MakesEdit edit.now limit (lists_circuit circuit) result }
 {
     written_is_read();
-    let _nodes = circuit.nodes();
-    if !fits_format(circuit) {
+    let made = edited(edit, circuit, limit)?;
+    if !fits_format(&CircuitView::new(&made)) {
         return Err(EditError::TooLarge);
     }
-    Ok(write_text(w, circuit)?)
+    Ok(made)
 }
 
-/// Writes the text form of what an edit makes of a circuit.
-fn write_edited<W: Sink>(
+/// What an edit makes of a circuit, if its text is a file.
+fn edited_file_of(
     edit: &Edit,
     circuit: CircuitLists,
     limit: usize,
-    w: &mut W,
-) -> Result<(), EditError>
+) -> Result<CircuitLists, EditError>
     requires circuit { IsCircuit (lists_circuit circuit) }
     requires plain { IsWritable (lists_circuit circuit) }
-    ensures { PrintsCircuit W.held W.failed edit.now limit (lists_circuit circuit) w.old result
-        w.new }
+    ensures gives { (f : File) (bound : ℕ) → Fits f bound → AreListsOf f circuit
+        → GivesEdit edit.now limit f result }
+    ensures circuit { IfOk result (λ lists. IsCircuit (lists_circuit lists)) }
+    ensures small { IfOk result (λ lists. FitsFormat (lists_circuit lists)) }
+    ensures never_read { verdict_by edit_verdict result ≡ Accepted }
 {
-    let made = edited(edit, circuit, limit)?;
-    write(&CircuitView::new(&made), w)
+    edited_files_show();
+    fitting(edit, circuit, limit)
 }
 
 /// Writes the text form of the circuit that an edit makes of this one to `w`. It doesn't flush `w`. Requires a circuit with a written
@@ -117,8 +118,8 @@ pub fn write_edit<W: Sink>(
     ensures never_read { verdict_by edit_verdict result ≡ Accepted }
     ensures kept { IsEditUnwritten result → w.new ≡ w.old }
 {
-    edited_files_show();
-    write_edited(edit, circuit, limit, w)
+    let made = edited_file_of(edit, circuit, limit)?;
+    Ok(write_text(w, &CircuitView::new(&made))?)
 }
 
 /// Reads a file in the AIGER format, and writes the text form of the circuit that an edit makes of its circuit to `w`. It doesn't
@@ -159,4 +160,28 @@ pub fn print_edit<R: Source, W: Sink>(
     files_are_circuits();
     let lists = read(alloc, r, limit)?;
     write_edit(edit, lists, limit, w)
+}
+
+/// Reads a file in the AIGER format, and makes the lists of the circuit that an edit makes of its circuit. Requires
+/// `1 <= limit <= 2^31`.
+///
+/// # Errors
+///
+/// Those of `print_edit` but `Write`.
+pub fn read_edit<R: Source>(
+    alloc: Global,
+    edit: &Edit,
+    r: &mut R,
+    limit: usize,
+) -> Result<CircuitLists, EditError>
+    requires some { 1 ≤ limit }
+    requires few { limit ≤ 2 ^ 31 }
+    // The bytes that were read are a file, and the lists are those of the edited circuit.
+    ensures reads { ReadsFile R.left R.failed limit (GivesEdit edit.now limit) edit_verdict
+        IsEditOwn r.old result r.new }
+    ensures circuit { IfOk result (λ lists. IsCircuit (lists_circuit lists)) }
+{
+    files_are_circuits();
+    let lists = read(alloc, r, limit)?;
+    edited_file_of(edit, lists, limit)
 }

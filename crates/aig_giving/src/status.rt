@@ -1,9 +1,10 @@
 //! The numbers by which calls say how they ended. `include/aig.h` has them in words.
 
 ghost use Rattle.std.specs.Prelude.{◌≡◌, ◌<◌};
-ghost use Rattle.aig_giving.specs.Statuses.{read_status, section_number};
+ghost use Rattle.aig_giving.specs.Statuses.{read_status, refutation_status, section_number};
 
 use aig_reader::{ReadError, Section};
+use aig_refutation::RefutationError;
 
 /// The call has done what it is for.
 pub const DONE: u32 = 0;
@@ -25,6 +26,8 @@ const NAME: u32 = 13;
 const SYNTAX: u32 = 16;
 /// A number of a section is no literal that may stand there. The section's number is added.
 const LITERAL: u32 = 24;
+/// A proof is refused. The fault's number is added.
+pub const PROOF: u32 = 40;
 /// A handle holds nothing: the first status of a call on a circuit in memory.
 pub const EMPTY: u32 = 110;
 
@@ -58,5 +61,25 @@ pub fn of_read(error: ReadError) -> u32
         ReadError::Literal(section) => LITERAL + section_number(section),
         ReadError::Delta => DELTA,
         ReadError::Name => NAME,
+    }
+}
+
+/// The status of a proof that is refused. No read of memory fails.
+pub fn of_refutation(error: RefutationError) -> u32
+    ensures exact { result ≡ refutation_status error }
+    ensures few { result < 60 }
+{
+    match error {
+        RefutationError::Memory | RefutationError::Stream => MEMORY,
+        RefutationError::Variable => PROOF,
+        RefutationError::Line => PROOF + 1,
+        RefutationError::Literal => PROOF + 2,
+        RefutationError::Unnamed => PROOF + 3,
+        RefutationError::Twice => PROOF + 4,
+        RefutationError::Large => PROOF + 5,
+        RefutationError::Step => PROOF + 6,
+        RefutationError::Asymmetry => PROOF + 7,
+        RefutationError::Binary => PROOF + 8,
+        RefutationError::Unfinished => PROOF + 9,
     }
 }

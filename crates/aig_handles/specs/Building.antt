@@ -1,6 +1,6 @@
 -- Part of what is promised.
 -- Leaves that are added, and what becomes of free ones.
-use Rattle.std.specs.Prelude.{◌≡◌, ◌<◌, ◌++◌, ◌∷◌, [], ◌⊎◌, ℕ, Bool, if◌then◌else◌, List, length, Option, Some, None, IfSome, slice_get, slice_set}
+use Rattle.std.specs.Prelude.{◌≡◌, ◌<◌, ◌++◌, ◌∷◌, [], ◌⊎◌, ℕ, Bool, if◌then◌else◌, length, Option, Some, None, IfSome, slice_get, slice_set}
 use Rattle.aig_circuit.specs.declared.edge.AigEdge.{AigEdge}
 use Rattle.aig_circuit.specs.declared.node.AigLatch.{AigLatch}
 use Rattle.aig_circuit.specs.declared.node.AigNodeType.TheVariants.{Leaf}
@@ -46,10 +46,11 @@ with_leaf (Latch next init) c =
 -- a leaf is added, and its number is told; or circuit and number stay
 abbrev pub AddsLeafOr : NewLeaf → ℕ → ℕ → ℕ → Circuit → Circuit → Type 0
 AddsLeafOr leaf status before after old new =
-    DoneOr status ((after ≡ length old.nodes) × (new ≡ with_leaf leaf old))
+    DoneOr status (HasEdgesOf old leaf × HasRoom old 1 × (after ≡ length old.nodes)
+    × (new ≡ with_leaf leaf old))
     ((new ≡ old) × (after ≡ before))
-    (Unmet RANGE status (HasEdgesOf old leaf) ⊎ Unmet FULL status (HasRoom old 1)
-    ⊎ (status ≡ MEMORY))
+    (Unmet RANGE status (HasEdgesOf old leaf)
+    ⊎ (HasEdgesOf old leaf × Unmet FULL status (HasRoom old 1)) ⊎ (status ≡ MEMORY))
 
 -- ---- free leaves and latches
 
@@ -60,15 +61,17 @@ IsFreeLeaf c n = IsLeaf c.nodes n × IsFree c.inputs c.latchs n
 -- a free leaf becomes the last input
 abbrev pub AddsInputOr : ℕ → ℕ → Circuit → Circuit → Type 0
 AddsInputOr n status old new =
-    ChangesOr status old new (new ≡ record old { inputs = old.inputs ++ n ∷ [] })
+    ChangesOr status old new
+    (IsFreeLeaf old n × (new ≡ record old { inputs = old.inputs ++ n ∷ [] }))
     (Unmet NOT_FREE status (IsFreeLeaf old n) ⊎ (status ≡ MEMORY))
 
 -- a free leaf becomes that of the last latch
 abbrev pub AddsLatchOr : ℕ → AigEdge → Option AigEdge → ℕ → Circuit → Circuit → Type 0
 AddsLatchOr n next init status old new =
-    ChangesOr status old new (new ≡ record old { latchs = old.latchs ++ latch_on n next init ∷ [] })
-    (Unmet NOT_FREE status (IsFreeLeaf old n) ⊎ Unmet RANGE status (HasEdges old next init)
-    ⊎ (status ≡ MEMORY))
+    ChangesOr status old new (IsFreeLeaf old n × HasEdges old next init
+    × (new ≡ record old { latchs = old.latchs ++ latch_on n next init ∷ [] }))
+    (Unmet NOT_FREE status (IsFreeLeaf old n)
+    ⊎ (IsFreeLeaf old n × Unmet RANGE status (HasEdges old next init)) ⊎ (status ≡ MEMORY))
 
 -- latch i is the one that this gives of it, and all else stays
 abbrev pub SetsLatch : ℕ → (AigLatch → AigLatch) → Circuit → Circuit → Type 0
@@ -76,14 +79,20 @@ SetsLatch i becomes old new =
     (latch : AigLatch) → slice_get old.latchs i ≡ Some latch
     → new ≡ record old { latchs = slice_set old.latchs i (becomes latch) }
 
+-- there is a latch i, and this of the edge
+abbrev pub HasLatch : Circuit → ℕ → Type 0 → Type 0
+HasLatch c i edge = (i < length c.latchs) × edge
+
 -- latch i has another next edge
 abbrev pub SetsNextOr : ℕ → AigEdge → ℕ → Circuit → Circuit → Type 0
 SetsNextOr i e status old new =
-    ChangesOr status old new (SetsLatch i (λ latch. record latch { next = e }) old new)
-    (Unmet RANGE status ((i < length old.latchs) × IsInRange old.nodes e))
+    ChangesOr status old new (HasLatch old i (IsInRange old.nodes e)
+    × SetsLatch i (λ latch. record latch { next = e }) old new)
+    (Unmet RANGE status (HasLatch old i (IsInRange old.nodes e)))
 
 -- latch i has another initial edge, or none
 abbrev pub SetsInitOr : ℕ → Option AigEdge → ℕ → Circuit → Circuit → Type 0
 SetsInitOr i e status old new =
-    ChangesOr status old new (SetsLatch i (λ latch. record latch { init = e }) old new)
-    (Unmet RANGE status ((i < length old.latchs) × IfSome e (IsInRange old.nodes)))
+    ChangesOr status old new (HasLatch old i (IfSome e (IsInRange old.nodes))
+    × SetsLatch i (λ latch. record latch { init = e }) old new)
+    (Unmet RANGE status (HasLatch old i (IfSome e (IsInRange old.nodes))))

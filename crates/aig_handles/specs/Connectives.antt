@@ -54,12 +54,18 @@ pub record Joins (by : Connective) (old new : Circuit) (a b e : AigEdge) : Type 
       (λ x. joined by (edge_value old.nodes x a) (edge_value old.nodes x b)) e
   pub gates : AddsOnlyGates old new
 
+-- the circuit has both edges
+abbrev pub HasBoth : Circuit → AigEdge → AigEdge → Type 0
+HasBoth c a b = IsInRange c.nodes a × IsInRange c.nodes b
+
 -- the edge that joins a and b is told by its literal; or circuit and literal stay
 abbrev pub JoinsOr : Connective → AigEdge → AigEdge → ℕ → ℕ → ℕ → Circuit → Circuit → Type 0
 JoinsOr by a b status before after old new =
-    DoneOr status (Joins by old new a b (edge_of after)) ((new ≡ old) × (after ≡ before))
-    (Unmet RANGE status (IsInRange old.nodes a × IsInRange old.nodes b)
-    ⊎ Unmet FULL status (HasRoom old (gates by)) ⊎ ((status ≡ MEMORY) × NeedsMemory by a b))
+    DoneOr status (HasBoth old a b × HasRoom old (gates by) × Joins by old new a b (edge_of after))
+    ((new ≡ old) × (after ≡ before))
+    (Unmet RANGE status (HasBoth old a b)
+    ⊎ (HasBoth old a b × Unmet FULL status (HasRoom old (gates by)))
+    ⊎ ((status ≡ MEMORY) × NeedsMemory by a b))
 
 -- ---- lists of edges
 
@@ -88,6 +94,9 @@ pub record JoinsAll (by : ListConnective) (old new : Circuit) (es : List AigEdge
 -- the edge that joins the edges is told by its literal; or circuit and literal stay
 abbrev pub JoinsAllOr : ListConnective → List AigEdge → ℕ → ℕ → ℕ → Circuit → Circuit → Type 0
 JoinsAllOr by es status before after old new =
-    DoneOr status (JoinsAll by old new es (edge_of after)) ((new ≡ old) × (after ≡ before))
+    DoneOr status (All (IsInRange old.nodes) es × HasRoom old (length es)
+    × JoinsAll by old new es (edge_of after))
+    ((new ≡ old) × (after ≡ before))
     (Unmet RANGE status (All (IsInRange old.nodes) es)
-    ⊎ Unmet FULL status (HasRoom old (length es)) ⊎ (status ≡ MEMORY))
+    ⊎ (All (IsInRange old.nodes) es × Unmet FULL status (HasRoom old (length es)))
+    ⊎ (status ≡ MEMORY))

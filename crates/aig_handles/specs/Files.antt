@@ -1,7 +1,7 @@
 -- Part of what is promised.
 -- Circuits that are read and written, and the statuses of those that aren't.
-use Rattle.std.specs.Prelude.{◌≡◌, ◌≤◌, ◌+◌, ◌^◌, ◌⊎◌, ℕ, List, Result, Ok, Err}
-use Rattle.aig.specs.Writing.{IsRefusal, IsVerdictOf}
+use Rattle.std.specs.Prelude.{◌≡◌, ◌≤◌, ◌^◌, ◌⊎◌, ℕ, List, Ok, Err}
+use Rattle.aig.specs.Writing.{IsVerdictOf}
 use Rattle.aig.specs.declared.aiger.WriteError.{WriteError}
 use Rattle.aig.specs.declared.aiger.WriteError.TheVariants as writing
 use Rattle.aig_circuit.specs.Circuit.{Circuit}
@@ -26,9 +26,14 @@ write_status writing.InitialEdge = INITIAL_EDGE
 write_status writing.Name = LINE_FEED
 write_status writing.TooLarge = UNWRITABLE
 
--- the circuit is that of the file which the bytes are
+-- there is such a limit
+abbrev pub IsLimit : ℕ → Type 0
+IsLimit limit = (1 ≤ limit) × (limit ≤ 2 ^ 31)
+
+-- there is such a limit, and the circuit is that of the file which the bytes are
 abbrev pub IsReadFrom : List ℕ → ℕ → Circuit → Type 0
-IsReadFrom bytes limit c = (f : File) × Accepts bytes limit f × (c ≡ circuit_of f)
+IsReadFrom bytes limit c =
+    IsLimit limit × ((f : File) × Accepts bytes limit f × (c ≡ circuit_of f))
 
 -- the status is that of an error which says why the bytes are no file that is taken
 pub record IsUnread (bytes : List ℕ) (limit status : ℕ) : Type 0 where
@@ -37,10 +42,11 @@ pub record IsUnread (bytes : List ℕ) (limit status : ℕ) : Type 0 where
   pub why : IsSettled (verdict_of error)
       → IsVerdictOn (λ _. Accepted) limit bytes (verdict_of error)
 
--- there is no such limit, the bytes are no file that is taken, or memory was refused
+-- there is no such limit; or there is, and the bytes are no file that is taken; or memory was
+-- refused
 abbrev pub RefusesFile : List ℕ → ℕ → ℕ → Type 0
 RefusesFile bytes limit status =
-    Unmet RANGE status ((1 ≤ limit) × (limit ≤ 2 ^ 31)) ⊎ IsUnread bytes limit status
+    Unmet RANGE status (IsLimit limit) ⊎ (IsLimit limit × IsUnread bytes limit status)
     ⊎ (status ≡ MEMORY)
 
 -- the status is that of the first refusal that the circuit has, or memory was refused

@@ -8,3 +8,4 @@ pub mod Questions
 pub mod Reading
 pub mod Simulating
 pub mod Transforms
+pub mod Unrolling

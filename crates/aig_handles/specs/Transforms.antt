@@ -1,13 +1,13 @@
 -- Part of what is promised.
 -- What a transform puts in place of a circuit.
-use Rattle.std.specs.Prelude.{◌≡◌, ◌≤◌, ◌^◌, ◌⊎◌, ◌∷◌, ℕ, List, All, length, slice_set}
+use Rattle.std.specs.Prelude.{◌≡◌, ◌⊎◌, ℕ, All, length, slice_set}
 use Rattle.std.specs.FinMap.{FinMap}
 use Rattle.std.specs.Ordering.{nat_cmp}
 use Rattle.aig.specs.Others.{IsRefined}
 use Rattle.aig_change.specs.Changes.{CompressesBads, ConstrainsInits, FoldsConstraints}
 use Rattle.aig_change.specs.Merge.{PairsRuns, merged, shifted}
 use Rattle.aig_circuit.specs.declared.edge.AigEdge.{AigEdge}
-use Rattle.aig_circuit.specs.Circuit.{BeginsWith, Circuit, IsClosed, IsInRange}
+use Rattle.aig_circuit.specs.Circuit.{BeginsWith, Circuit, IsClosed}
 use Rattle.aig_circuit.specs.Edges.{HasConstantInit}
 use Rattle.aig_circuit.specs.Node.{Admits}
 use Rattle.aig_circuit.specs.Reencode.{IsReencoded, new_number, reencoded}
@@ -18,13 +18,13 @@ use Rattle.aig_unroll.specs.Unroll.{AddsExactly, UnrollsBySteps, UnrollsOnce, Un
 use Rattle.aig_handles.specs.Handles.{ChangesOr, HasRoom, Unmet}
 use Rattle.aig_handles.specs.Questions.{gate_of}
 use Rattle.aig_giving.specs.declared.status.TheConstants.{MEMORY}
-use Rattle.aig_handles.specs.declared.status.TheConstants.{FREE_LEAF, FULL, NOT_ADMITTED, NO_BEGINNING, RANGE}
+use Rattle.aig_handles.specs.declared.status.TheConstants.{FREE_LEAF, FULL, NOT_ADMITTED, NO_BEGINNING}
 
 -- a gate has these operands
 abbrev pub SetsGateOr : ℕ → AigEdge → AigEdge → ℕ → Circuit → Circuit → Type 0
 SetsGateOr n a b status old new =
-    ChangesOr status old new
-    (new ≡ record old { nodes = slice_set old.nodes n (gate_of n a b) })
+    ChangesOr status old new (Admits old.nodes n (gate_of n a b)
+    × (new ≡ record old { nodes = slice_set old.nodes n (gate_of n a b) }))
     (Unmet NOT_ADMITTED status (Admits old.nodes n (gate_of n a b)))
 
 -- the constraints are joined to the first bad edge and the first output
@@ -41,8 +41,9 @@ ConstrainsOr status old new =
     ChangesOr status old new (ConstrainsInits old new)
     ((status ≡ MEMORY) × ¬ All HasConstantInit old.latchs)
 
--- the numbering is that of the binary form, and runs stay
+-- no leaf is free, the numbering is that of the binary form, and runs stay
 pub record Reencodes (old new : Circuit) : Type 0 where
+  pub asked : IsClosed old
   pub exact : new ≡ reencoded old
   pub closed : IsClosed new
   pub long : AreAsLong old new
@@ -72,7 +73,8 @@ UnrollsToOr k status old new =
 -- one step of another circuit is added
 abbrev pub UnrollsOr : Circuit → ℕ → Circuit → Circuit → Type 0
 UnrollsOr from status old new =
-    ChangesOr status old new (UnrollsOnce from old new × AddsExactly from old new)
+    ChangesOr status old new
+    (BeginsWith old from × UnrollsOnce from old new × AddsExactly from old new)
     (Unmet NO_BEGINNING status (BeginsWith old from) ⊎ (status ≡ MEMORY))
 
 -- another circuit is appended, and runs are pairs of runs
@@ -84,8 +86,9 @@ abbrev pub MergesOr : Circuit → ℕ → Circuit → Circuit → Type 0
 MergesOr other status old new =
     ChangesOr status old new (Merges other old new) (status ≡ MEMORY)
 
--- the circuit is cut to its cone of influence
+-- edges have literals, and the circuit is cut to its cone of influence
 pub record Refines (old new : Circuit) : Type 0 where
+  pub asked : HasRoom old 0
   pub numbers : FinMap nat_cmp ℕ
   pub refined : IsRefined old new numbers
 

@@ -2,6 +2,7 @@
 
 ghost use Rattle.std.specs.Prelude.{◌≡◌, ◌<◌, ◌↔◌, ℕ, All, Contains, IfErr, IfOk, IsTrue, length, map};
 ghost use Rattle.aig_circuit.specs.Marks.{IsMarked};
+ghost use Rattle.aig_circuit.specs.Reach.{IsInCone, MarksExactly};
 ghost use Rattle.aig_giving.specs.Edges.{edge_of};
 ghost use Rattle.aig_giving.specs.Given.{GivesOr};
 ghost use Rattle.aig_handles.specs.Cones.{HasNoCone, HasNoFanin, MarksCone, MarksFanin};
@@ -90,7 +91,7 @@ fn marks_of(alloc: Global, cone: &HashSet<usize>, count: usize) -> Result<Vec<bo
 /// Marks of the cone of influence of nodes.
 fn cone_of(alloc: Global, aig: &Aig, roots: &[usize]) -> Result<Vec<bool>, MemoryError>
     requires { All (λ n. n < length aig.now.nodes) roots.now }
-    ensures { IfOk result (λ v. MarksCone roots.now aig.now v.items) }
+    ensures { IfOk result (λ v. MarksExactly aig.now.nodes (IsInCone aig.now roots.now) v.items) }
 {
     let cone = aig.coi(roots)?;
     marks_of(alloc, &cone, aig.num_nodes())

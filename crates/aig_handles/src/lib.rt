@@ -1,4 +1,4 @@
-//! Circuits in memory for C: exports whose contracts speak of the circuit or the simulation that a handle holds. `include/aig_circuit.h`
+//! Circuits in memory for C: exports whose contracts speak of the circuit, the simulation or the unrolled circuit that a handle holds. `include/aig_circuit.h`
 //! says to C what each takes and gives.
 //!
 //! No call has a `requires`: a handle that holds nothing, an edge that isn't there and memory that is refused are answered by a status.
@@ -33,6 +33,13 @@ macro_rules! lend_simulation {
     };
 }
 
+/// Lends the unrolled circuit of a handle.
+macro_rules! lend_unrolling {
+    ($alloc:expr, $handle:expr, $unrolling:ident => $status:expr) => {
+        lend_as!(Unrolling, $alloc, $handle, $unrolling => $status)
+    };
+}
+
 mod building;
 mod checks;
 mod clauses;
@@ -49,3 +56,5 @@ mod simulation;
 mod simulations;
 mod status;
 mod transforms;
+mod unrolling;
+mod unrolling_checks;

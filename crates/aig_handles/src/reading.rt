@@ -4,8 +4,8 @@ ghost use Rattle.std.specs.Prelude.{◌≡◌, ◌<◌, All, IfErr, IfOk, Some, 
 ghost use Rattle.aig_circuit.specs.Circuit.{IsCircuit, IsInRange};
 ghost use Rattle.aig_circuit.specs.Edge.{literal_of};
 ghost use Rattle.aig_giving.specs.Given.{GivesOr};
-ghost use Rattle.aig_handles.specs.Handles.{OnHeld, Unmet, held_in};
-ghost use Rattle.aig_handles.specs.Reading.{AreEntries, AreJustice, Counts, HasNoEntries, HasNoJustice, HasNoLiterals, Lists, gate_list, latch_list, node_list};
+ghost use Rattle.aig_handles.specs.Handles.{HasRoom, OnHeld, Unmet, held_in};
+ghost use Rattle.aig_handles.specs.Reading.{AreEntries, AreJustice, Counts, HasNoEntries, HasNoJustice, HasNoLiterals, Lists, ListsLiterals, gate_list, latch_list, node_list};
 ghost use Rattle.aig_handles.specs.Lists.{list_of};
 
 use crate::lists::{entries, list_of};
@@ -45,7 +45,7 @@ pub extern "C" fn aig_circuit_num_justice(
 
 /// The nodes, or the status that says why they have no literals.
 fn node_list(alloc: Global, aig: &Aig) -> Result<Vec<GivenNode>, u32>
-    ensures list { IfOk result (λ v. v.items ≡ node_list aig.now) }
+    ensures list { IfOk result (λ v. HasRoom aig.now 0 × (v.items ≡ node_list aig.now)) }
     ensures refused { IfErr result (λ status. HasNoLiterals status aig.now) }
 {
     if !aig.fits_lits() {
@@ -59,8 +59,7 @@ fn node_list(alloc: Global, aig: &Aig) -> Result<Vec<GivenNode>, u32>
 
 /// Gives the nodes.
 fn give_nodes(alloc: Global, aig: &Aig, out: &mut [GivenNode], needed: &mut usize) -> u32
-    ensures { Lists node_list result out.old out.new needed.old needed.new (HasNoLiterals result
-        aig.now) aig.now }
+    ensures { ListsLiterals node_list result out.old out.new needed.old needed.new aig.now }
 {
     give_made(node_list(alloc, aig), out, needed)
 }
@@ -75,8 +74,8 @@ pub extern "C" fn aig_circuit_nodes(
 ) -> u32
     ensures kept { held_in circuit.new ≡ held_in circuit.old }
     ensures list { OnHeld circuit.old circuit.new result
-        ((out.new ≡ out.old) × (needed.new ≡ needed.old)) (λ c _. Lists node_list result out.old
-        out.new needed.old needed.new (HasNoLiterals result c) c) }
+        ((out.new ≡ out.old) × (needed.new ≡ needed.old)) (λ c _. ListsLiterals node_list result
+        out.old out.new needed.old needed.new c) }
 {
     lend!(alloc, circuit, aig => give_nodes(alloc, &*aig, out, needed))
 }
@@ -106,7 +105,7 @@ pub extern "C" fn aig_circuit_inputs(
 
 /// The latches, or the status that says why they have no literals.
 fn latch_list(alloc: Global, aig: &Aig) -> Result<Vec<GivenLatch>, u32>
-    ensures list { IfOk result (λ v. v.items ≡ latch_list aig.now) }
+    ensures list { IfOk result (λ v. HasRoom aig.now 0 × (v.items ≡ latch_list aig.now)) }
     ensures refused { IfErr result (λ status. HasNoLiterals status aig.now) }
 {
     if !aig.fits_lits() {
@@ -120,8 +119,7 @@ fn latch_list(alloc: Global, aig: &Aig) -> Result<Vec<GivenLatch>, u32>
 
 /// Gives the latches.
 fn give_latchs(alloc: Global, aig: &Aig, out: &mut [GivenLatch], needed: &mut usize) -> u32
-    ensures { Lists latch_list result out.old out.new needed.old needed.new (HasNoLiterals result
-        aig.now) aig.now }
+    ensures { ListsLiterals latch_list result out.old out.new needed.old needed.new aig.now }
 {
     give_made(latch_list(alloc, aig), out, needed)
 }
@@ -136,8 +134,8 @@ pub extern "C" fn aig_circuit_latchs(
 ) -> u32
     ensures kept { held_in circuit.new ≡ held_in circuit.old }
     ensures list { OnHeld circuit.old circuit.new result
-        ((out.new ≡ out.old) × (needed.new ≡ needed.old)) (λ c _. Lists latch_list result out.old
-        out.new needed.old needed.new (HasNoLiterals result c) c) }
+        ((out.new ≡ out.old) × (needed.new ≡ needed.old)) (λ c _. ListsLiterals latch_list result
+        out.old out.new needed.old needed.new c) }
 {
     lend!(alloc, circuit, aig => give_latchs(alloc, &*aig, out, needed))
 }
@@ -145,7 +143,7 @@ pub extern "C" fn aig_circuit_latchs(
 /// The literals of edges of a circuit, or the status that says why they have none.
 fn literal_list(alloc: Global, aig: &Aig, edges: &[AigEdge]) -> Result<Vec<u32>, u32>
     requires { All (IsInRange aig.now.nodes) edges.now }
-    ensures list { IfOk result (λ v. v.items ≡ map literal_of edges.now) }
+    ensures list { IfOk result (λ v. HasRoom aig.now 0 × (v.items ≡ map literal_of edges.now)) }
     ensures refused { IfErr result (λ status. HasNoLiterals status aig.now) }
 {
     if !aig.fits_lits() {

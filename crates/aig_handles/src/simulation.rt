@@ -4,7 +4,7 @@ ghost use Rattle.std.specs.Prelude.{◌≡◌, ◌<◌, IfErr, IfOk, OnOk, lengt
 ghost use Rattle.aig_giving.specs.Given.{GivesOr};
 ghost use Rattle.aig_giving.specs.Values.{value_number};
 ghost use Rattle.aig_handles.specs.Handles.{OnHeld, held_in};
-ghost use Rattle.aig_handles.specs.Simulating.{AreNodeValues, HasNoValues, StepsOr, after_step};
+ghost use Rattle.aig_handles.specs.Simulating.{AreLeafValues, AreNodeValues, HasNoValues, StepsOr, after_step};
 ghost use Rattle.aig_held.specs.Moments.{simulation_then};
 
 use crate::status::{COUNT, VALUE};
@@ -30,7 +30,7 @@ fn stepped(alloc: Global, aig: &Aig, inputs: &[u8], latchs: &[u8]) -> Result<Ste
 fn step_of(alloc: Global, aig: &Aig, inputs: &[u8], latchs: &[u8]) -> Result<Stepped, u32>
     ensures stepped { IfOk result (λ s. simulation_then aig.now s ≡ after_step aig.now latchs.now
         inputs.now) }
-    ensures count { OnOk result (length latchs.now ≡ length aig.now.latchs) }
+    ensures asked { OnOk result (AreLeafValues inputs.now latchs.now aig.now) }
     ensures refused { IfErr result (λ status. HasNoValues inputs.now latchs.now status aig.now) }
 {
     if inputs.len() != aig.inputs().len() || latchs.len() != aig.latchs().len() {
@@ -119,6 +119,7 @@ fn numbers_of_step(
         state.now inputs.now).values) }
     ensures state { IfOk result (λ n. n.state.items ≡ map value_number (after_step aig.now
         state.now inputs.now).state) }
+    ensures asked { OnOk result (AreLeafValues inputs.now state.now aig.now) }
     ensures count { IfOk result (λ n. length n.state.items ≡ length state.now) }
     ensures refused { IfErr result (λ status. HasNoValues inputs.now state.now status aig.now) }
 {

@@ -1,12 +1,12 @@
 //! Simulations in three values that have a state of their own.
 
-ghost use Rattle.std.specs.Prelude.{◌≡◌, ◌*◌, ◌↔◌, ◌⊎◌, ⊤, All, IfErr, IfNone, IfOk, IfSome, IsTrue, None, Some, length, map};
+ghost use Rattle.std.specs.Prelude.{◌≡◌, ◌*◌, ◌↔◌, ⊤, All, IfErr, IfNone, IfOk, IfSome, IsTrue, None, Some, length, map};
 ghost use Rattle.aig_circuit.specs.Circuit.{IsInRange};
 ghost use Rattle.aig_giving.specs.Edges.{edge_of};
 ghost use Rattle.aig_giving.specs.Values.{value_number};
 ghost use Rattle.aig_giving.specs.declared.status.TheConstants.{DONE, MEMORY};
-ghost use Rattle.aig_handles.specs.Handles.{DoneOr, OnHeld, OnSimulation, Unmet, held_in};
-ghost use Rattle.aig_handles.specs.Simulating.{AllStepsOr, BeginsOr, GivesState, HasNoStep, SimulatesOr, TellsValueOr, rows_of, steps_of, values_of};
+ghost use Rattle.aig_handles.specs.Handles.{DoneOr, OnHeld, OnSimulation, held_in};
+ghost use Rattle.aig_handles.specs.Simulating.{AllStepsOr, BeginsOr, GivesState, HasNoSteps, IsAsked, SimulatesOr, TellsValueOr, rows_of, steps_of, values_of};
 ghost use Rattle.aig_held.specs.Moments.{AreOf, simulation_then};
 ghost use Rattle.aig_held.specs.declared.held.Held.TheVariants as kinds;
 ghost use Rattle.aig_ternary.specs.Ternary.{HasValue, simulation_of, stepped_all, values_in};
@@ -249,11 +249,9 @@ fn answers(
 
 /// The status of a refusal before steps are valued, if there is one.
 fn refusal_of(simulated: &Simulated, inputs: &[u8], steps: usize, e: AigEdge) -> Option<u32>
-    ensures refused { IfSome result (λ status. Unmet RANGE status (IsInRange
-        simulated.now.circuit.nodes e) ⊎ HasNoStep inputs.now steps status simulated.now.circuit) }
-    ensures edge { IfNone result (IsInRange simulated.now.circuit.nodes e) }
-    ensures count { IfNone result (length inputs.now ≡ steps * length
-        simulated.now.circuit.inputs) }
+    ensures refused { IfSome result (λ status. HasNoSteps e inputs.now steps status
+        simulated.now.circuit) }
+    ensures asked { IfNone result (IsAsked e inputs.now steps simulated.now.circuit) }
 {
     if !simulated.aig().has_edge(e) {
         return Some(RANGE);

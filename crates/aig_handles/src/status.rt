@@ -6,9 +6,9 @@ ghost use Rattle.aig_handles.specs.Files.{write_status};
 use aig::WriteError;
 use aig_giving::{MEMORY, UNWRITABLE};
 
-/// An edge, a node, an entry or a list isn't there, or a limit isn't one.
+/// An edge, a node, an entry, a list or a step isn't there, or a limit isn't one.
 pub(crate) const RANGE: u32 = 111;
-/// The circuit has more than 2^31 nodes, or could have.
+/// There are more than 2^31 nodes, or could be; for clauses, 2^31 or more.
 pub(crate) const FULL: u32 = 112;
 /// A leaf is neither an input nor a latch's.
 pub(crate) const FREE_LEAF: u32 = 113;

@@ -1,4 +1,4 @@
-//! What C holds: a circuit, a simulation or none.
+//! What C holds: a circuit, a simulation, an unrolled circuit or none.
 
 ghost use Rattle.std.specs.Prelude.{◌≡◌, None, Some, option_map};
 ghost use Rattle.aig_held.specs.Kept.{held};
@@ -11,7 +11,7 @@ use std::alloc::Global;
 use std::marker::Model;
 use std::{mem, ptr};
 
-/// A circuit or a simulation on the heap, or none. C makes one of zeros, which has none, and never reads, writes or copies one that has.
+/// A circuit, a simulation or an unrolled circuit on the heap, or none. C makes one of zeros, which has none, and never reads, writes or copies one that has.
 #[repr(C)]
 pub struct Handle {
     at: *mut u8,

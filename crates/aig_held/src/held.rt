@@ -2,10 +2,12 @@
 
 use crate::simulated::Simulated;
 use aig::Aig;
+use aig_steps::Unrolling;
 
-/// A circuit, or a simulation of one.
+/// A circuit, a simulation of one, or one that is unrolled step by step.
 #[derive(Drop)]
 pub enum Held {
     Circuit(Aig),
     Simulation(Simulated),
+    Unrolling(Unrolling),
 }

@@ -35,7 +35,7 @@ module _ (c u : Circuit) (k : ℕ) (lists : List (List (List Lit))) (unrolls : U
     shows : HasStepValues c u k (edge_in v) x
     shows = shown c u k lists v x fixes holds (unrolls.same v x is_run reads)
 
-    starts_are : AllByRecursion (Holds v) starts ↔ IsInitial c (x 0)
+    pub starts_are : AllByRecursion (Holds v) starts ↔ IsInitial c (x 0)
     starts_are =
         let zero = node_value-false u.nodes v 0 unrolls.keeps.nodes.sound.false_first in
         let IsSame = λ (e : AigEdge). edge_in v e ≡ edge_value u.nodes v e in
@@ -49,7 +49,8 @@ module _ (c u : Circuit) (k : ℕ) (lists : List (List (List Lit))) (unrolls : U
     abbrev IsTrueAt : ℕ → AigEdge → Type 0
     IsTrueAt t e = IsTrue (edge_value c.nodes (x t) e)
 
-    constraints_are : AllByRecursion (Holds v) units ↔ ((t : ℕ) → t ≤ k → All (IsTrueAt t) c.properties.constraints)
+    pub constraints_are : AllByRecursion (Holds v) units ↔
+        ((t : ℕ) → t ≤ k → All (IsTrueAt t) c.properties.constraints)
     constraints_are =
         let r = units_say v u.properties.constraints in
         let s = stand_all k (λ t. edge_value c.nodes (x t)) c.properties.constraints (edge_in v) u.properties.constraints shows.properties.constraints in

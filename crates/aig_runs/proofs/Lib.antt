@@ -4,7 +4,7 @@ pub mod CircuitRuns
 pub mod FileRuns
 pub mod Rows
 pub mod Further
-mod Starting
+pub mod Starting
 pub mod CircuitQueries
 pub mod Witnesses
 pub mod Queries
@@ -19,6 +19,6 @@ mod States
 mod Certificates
 mod Differing
 pub mod Below
-mod Windows
+pub mod Windows
 mod SafetyExamples
 pub mod Asking

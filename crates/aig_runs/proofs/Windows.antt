@@ -220,7 +220,8 @@ module _ (f : File) (limit k : ℕ) (outputs : List AigEdge) (u : Circuit) (list
         let front = (rec_append (Holds v) units inverses).1 (first, second) in
         (rec_append (Holds v) (units ++ inverses) (map lit_of (last_bads (circuit_of f) (k + 1) u) ∷ [])).1 (front, (third ∙ bad, tt))
 
-    plain_satisfiable : IsSatisfiable (clauses_in (lists ++ replicate 0 []) ++ induction_clauses (circuit_of f) k u)
+    pub plain_satisfiable : IsSatisfiable
+        (clauses_in (lists ++ replicate 0 []) ++ induction_clauses (circuit_of f) k u)
     plain_satisfiable =
         let further_hold = (all_is (is_true_clause v) (induction_clauses (circuit_of f) k u)).1 induction_hold in
         (v, both_true v (lists ++ replicate 0 []) (induction_clauses (circuit_of f) k u) (satisfies_more v lists 0 one.satisfies) further_hold)

@@ -24,8 +24,10 @@ fn push_value(extra: &mut LitVvec, node: usize, edge: AigEdge) -> Result<(), Mem
     extra.push(&[var.lit(), other.to_lit()])
 }
 
-/// Appends for each latch with an initial edge the clauses that its leaf has that edge's value.
-fn push_starts(extra: &mut LitVvec, latchs: &[AigLatch]) -> Result<(), MemoryError>
+/// Appends for each latch with an initial edge the clauses that its leaf has that edge's value: one where that is constant,
+/// and else two. The one error is refused memory, and then a beginning may have been appended. Requires that the numbers
+/// of leaves and of initial edges' nodes are below 2^31, as `fits_lits` of a circuit says.
+pub fn push_starts(extra: &mut LitVvec, latchs: &[AigLatch]) -> Result<(), MemoryError>
     requires { All (IsThere (2 ^ 31)) latchs.now }
     ensures { OnOk result (extra.new ≡ extra.old ++ flat_map start_clauses latchs.now) }
 {

@@ -10,7 +10,7 @@ mod unrolled;
 mod window;
 
 pub use circuits::{refuted_circuit_queries_have_no_witness, safe_circuits_are_safe_machines};
-pub use clauses::{push_any, push_units, query_clauses};
+pub use clauses::{push_any, push_starts, push_units, query_clauses};
 pub use laws::{
     circuit_queries_ask, circuit_witnesses_are_file_witnesses, clauses_are_circuit_runs,
     clauses_are_file_runs, encodings_are_one, queries_ask, refuted_queries_are_safe,

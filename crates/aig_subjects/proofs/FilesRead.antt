@@ -4,7 +4,8 @@ use Rattle.aig_circuit.specs.Circuit.{Circuit, IsCircuit, IsClosed}
 use Rattle.aig_circuit.specs.Edges.{HasConstantInit}
 use Rattle.aig_circuit.specs.View.{lists_circuit}
 use Rattle.aig_circuit.specs.declared.view.CircuitLists.{CircuitLists}
-use Rattle.aig_edits.specs.Edits.{IsEditOwn, ReadsFile, edit_verdict}
+use Rattle.aig_edit_laws.specs.declared.fairness.Fairness.{Fairness}
+use Rattle.aig_edits.specs.Edits.{AreStepsWithin, GivesEdit, IsEditOwn, IsEditRefusal, IsWrittenEdit, ReadsFile, edit_verdict}
 use Rattle.aig_edits.specs.Joints as joints
 use Rattle.aig_edits.specs.Joints.{IsJoined, IsJointOf, IsRefusalOf, first_verdict, second_verdict}
 use Rattle.aig_edits.proofs.ReadFiles.{file_on}
@@ -12,6 +13,8 @@ use Rattle.aig_edits.specs.Lives.{GivesLive}
 use Rattle.aig_edits.specs.Pairs.{ReadsPair}
 use Rattle.aig_edits.specs.Rounds.{GivesRounds}
 use Rattle.aig_edits.specs.declared.edit_error.EditError.{EditError}
+use Rattle.aig_edits.specs.declared.edit_error.EditError.TheVariants as edit_errors
+use Rattle.aig_edits.specs.declared.editing.Edit.{Edit}
 use Rattle.aig_edits.specs.declared.pair_error.PairError.{PairError}
 use Rattle.aig_edits.specs.declared.pair_error.PairError.TheVariants as pairs
 use Rattle.aig_edits.specs.declared.pairing.Pairing.TheVariants.{Miter}
@@ -24,7 +27,8 @@ use Rattle.aig_reader.proofs.Verdicts.{of_no_file}
 use Rattle.aig_runs.specs.Safety.{IsCircuitSafeAt, IsSafeAt}
 use Rattle.aig_subjects.specs.Parts.{GivesBeside, IsOfCertificate, ReadsMiter, certificate_verdict}
 use Rattle.aig_subjects.specs.Reads.{AreAccepted, AreReadAs, ReadsFiles}
-use Rattle.aig_subjects.specs.Subjects.{Gives, GivesFile, IsCircuitOfFile, IsFileSubject, IsOwn, IsReady, IsSubject, IsUnmadeFile, file_count, pair_verdicts, verdicts}
+use Rattle.aig_subjects.specs.FileSubjects.{GivesFile, IsFileSubject, IsUnmadeFile}
+use Rattle.aig_subjects.specs.Subjects.{Gives, IsCircuitOfFile, IsOwn, IsReady, IsSubject, file_count, pair_verdicts, verdicts}
 use Rattle.aig_subjects.specs.declared.error.SubjectError.{SubjectError}
 use Rattle.aig_subjects.specs.declared.error.SubjectError.TheVariants as errors
 use Rattle.aig_subjects.specs.declared.subject.FileSubject.{FileSubject}
@@ -214,30 +218,63 @@ module _ {S T : Type 0} (left : S → Option (List ℕ)) (failed : S → Bool) (
 
 module _ {R : Type 0} (left : R → Option (List ℕ)) (failed : R → Bool) (limit : ℕ) (r rest : R)
     (x : Result CircuitLists EditError) where
-  -- the circuit for a justice property was made
-  pub live_read : (property : ℕ)
-      → ReadsFile left failed limit (GivesLive property) edit_verdict IsEditOwn r x rest
-      → ReadsFile left failed limit (GivesFile (Live property)) edit_verdict IsEditOwn r x rest
-  live_read property told =
-      file_on left failed limit r rest (GivesFile (Live property)) edit_verdict IsEditOwn x told refl
+  -- the live circuit was made
+  pub live_read : (fairness : Fairness)
+      → ReadsFile left failed limit (GivesLive fairness) edit_verdict IsEditOwn r x rest
+      → ReadsFile left failed limit (GivesFile (Live fairness)) edit_verdict IsEditOwn r x rest
+  live_read fairness told =
+      file_on left failed limit r rest
+      (GivesFile (Live fairness)) edit_verdict IsEditOwn x told refl
       told.own (λ f fits. given x f)
     where
-      given : (x : Result CircuitLists EditError) (f : File) → GivesLive property f x
-          → GivesFile (Live property) f x
+      given : (x : Result CircuitLists EditError) (f : File) → GivesLive fairness f x
+          → GivesFile (Live fairness) f x
       given (Ok lists) f gives = gives
       given (Err e) f gives = gives
 
-  pub rounds_read : (property rounds : ℕ)
-      → ReadsFile left failed limit (GivesRounds property rounds) edit_verdict IsEditOwn r x rest
-      → ReadsFile left failed limit (GivesFile (Rounds property rounds)) edit_verdict IsEditOwn r x rest
-  rounds_read property rounds told =
-      file_on left failed limit r rest (GivesFile (Rounds property rounds)) edit_verdict IsEditOwn x
+  pub rounds_read : (fairness : Fairness) (rounds : ℕ)
+      → ReadsFile left failed limit (GivesRounds fairness rounds) edit_verdict IsEditOwn r x rest
+      → ReadsFile left failed limit
+      (GivesFile (Rounds fairness rounds)) edit_verdict IsEditOwn r x rest
+  rounds_read fairness rounds told =
+      file_on left failed limit r rest (GivesFile (Rounds fairness rounds)) edit_verdict IsEditOwn x
       told refl told.own (λ f fits. given x f)
     where
-      given : (x : Result CircuitLists EditError) (f : File) → GivesRounds property rounds f x
-          → GivesFile (Rounds property rounds) f x
+      given : (x : Result CircuitLists EditError) (f : File) → GivesRounds fairness rounds f x
+          → GivesFile (Rounds fairness rounds) f x
       given (Ok lists) f gives = gives
       given (Err e) f gives = gives
+
+  -- that of an edit without further steps was
+  pub edit_read : (own : FileSubject) (edit : Edit)
+      → ((bound : ℕ) (c : Circuit) → AreStepsWithin edit bound c)
+      → ((f : File) (m : Circuit) → IsWrittenEdit edit 0 f m → IsFileSubject own f m)
+      → ((f : File) (e : EditError) → IsEditRefusal edit 0 f e → IsUnmadeFile own f e)
+      → ReadsFile left failed limit (GivesEdit edit limit) edit_verdict IsEditOwn r x rest
+      → ReadsFile left failed limit (GivesFile own) edit_verdict IsEditOwn r x rest
+  edit_read own edit free made unmade told =
+      file_on left failed limit r rest (GivesFile own) edit_verdict IsEditOwn x told refl told.own
+      (λ f fits. given x f)
+    where
+      refused : (e : EditError) (f : File) → IsEditRefusal edit limit f e → IsEditRefusal edit 0 f e
+      refused edit_errors.PassesLimit f is = absurd (is.1 (free limit (circuit_of f)))
+      refused edit_errors.TooLarge f is = (is.0, free 0 (circuit_of f), is.2)
+      refused edit_errors.Memory f is = (is.0, free 0 (circuit_of f))
+      refused e f is = is
+
+      given : (x : Result CircuitLists EditError) (f : File) → GivesEdit edit limit f x
+          → GivesFile own f x
+      given (Ok lists) f gives = made f (lists_circuit lists) (record {
+        edit_of = record {
+          can = gives.edit_of.can;
+          within = free 0 (circuit_of f);
+          edited = gives.edit_of.edited;
+          small = gives.edit_of.small;
+        };
+        again = gives.again;
+        shows = gives.shows;
+      })
+      given (Err e) f gives = unmade f e (refused e f gives)
 
   pub file_ready : Known → (own : FileSubject) → limit ≤ 2 ^ 31
       → ReadsFile left failed limit (GivesFile own) edit_verdict IsEditOwn r x rest

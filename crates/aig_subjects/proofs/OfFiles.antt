@@ -11,9 +11,10 @@ use Rattle.aig_join.specs.Files.{HasLinesOf}
 use Rattle.aig_join.specs.declared.comparison.Comparison.{Comparison}
 use Rattle.aig_runs.specs.Queries.{IsSafeTo}
 use Rattle.aig_subjects.specs.Reads.{AreAccepted}
-use Rattle.aig_subjects.specs.Subjects.{IsBeside, IsFileSubject, IsCircuitOfFile, IsSubject}
+use Rattle.aig_subjects.specs.FileSubjects.{IsFileSubject}
+use Rattle.aig_subjects.specs.Subjects.{IsBeside, IsCircuitOfFile, IsSubject}
 use Rattle.aig_subjects.specs.declared.subject.FileSubject.{FileSubject}
-use Rattle.aig_subjects.specs.declared.subject.FileSubject.TheVariants.{Live, Own, Rounds}
+use Rattle.aig_subjects.specs.declared.subject.FileSubject.TheVariants.{Live, Outputs, Own, Possible, Property, Rounds}
 use Rattle.aig_subjects.specs.declared.subject.Subject.{Subject}
 use Rattle.aig_subjects.specs.declared.subject.Subject.TheVariants as subjects
 
@@ -49,8 +50,11 @@ module _ (limit : ℕ) (low : limit ≤ 2 ^ 31) where
     accepts = is;
     of = made ∙ ap (λ ns. record (circuit_of f) { names = ns }) (ap (λ (c : Circuit). c.names) (sym made));
   }
-  own_file (Live property) f bytes m is made = again_file m made.small made.again
-  own_file (Rounds property rounds) f bytes m is made = again_file m made.small made.again
+  own_file (Live fairness) f bytes m is made = again_file m made.small made.again
+  own_file (Rounds fairness rounds) f bytes m is made = again_file m made.small made.again
+  own_file (Property number) f bytes m is made = again_file m made.edit_of.small made.again
+  own_file Possible f bytes m is made = again_file m made.edit_of.small made.again
+  own_file Outputs f bytes m is made = again_file m made.edit_of.small made.again
 
 -- a miter
 pub miter_file : (comparison : Comparison) (f g : File) (m : Circuit)

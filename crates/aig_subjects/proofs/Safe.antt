@@ -4,6 +4,7 @@ use Rattle.std.specs.FinMap.{FinMap}
 use Rattle.std.specs.Ordering.{nat_cmp}
 use Rattle.aig_circuit.specs.Circuit.{Circuit}
 use Rattle.aig_edit_laws.specs.Fair.{HasFairLasso, HasFairRun}
+use Rattle.aig_edit_laws.specs.declared.fairness.Fairness.{Fairness}
 use Rattle.aig_edit_laws.specs.Shown.{HasWitness}
 use Rattle.aig_edits.specs.Joints.{IsJointOf}
 use Rattle.aig_edits.specs.declared.pairing.Pairing.TheVariants.{Miter}
@@ -15,10 +16,11 @@ use Rattle.aig_join.specs.declared.comparison.Comparison.{Comparison}
 use Rattle.aig_runs.specs.CircuitQueries.{HasCircuitWitness}
 use Rattle.aig_runs.specs.Safety.{IsCircuitSafeAt, IsSafeAt}
 use Rattle.aig_subjects.specs.Reads.{AreAccepted}
-use Rattle.aig_subjects.specs.Shown.{FileShowsAlways, FileShowsAt, HasNoCertificate, PairShowsAt, ShowsAlways, ShowsAt}
-use Rattle.aig_subjects.specs.Subjects.{IsBeside, IsFileSubject, IsSubject}
+use Rattle.aig_subjects.specs.FileSubjects.{FileShowsAlways, FileShowsAt, IsFileSubject}
+use Rattle.aig_subjects.specs.Shown.{HasNoCertificate, PairShowsAt, ShowsAlways, ShowsAt}
+use Rattle.aig_subjects.specs.Subjects.{IsBeside, IsSubject}
 use Rattle.aig_subjects.specs.declared.subject.FileSubject.{FileSubject}
-use Rattle.aig_subjects.specs.declared.subject.FileSubject.TheVariants.{Live, Own, Rounds}
+use Rattle.aig_subjects.specs.declared.subject.FileSubject.TheVariants.{Live, Outputs, Own, Possible, Property, Rounds}
 use Rattle.aig_subjects.specs.declared.subject.Subject.{Subject}
 use Rattle.aig_subjects.specs.declared.subject.Subject.TheVariants as subjects
 use Rattle.aig_subjects.proofs.OfFiles.{HasFile, is_whole, lines, miter_file, own_file, whole}
@@ -61,7 +63,8 @@ pub record Known : Type 0 where
   pub machines : AreMachines
   pub written : (c : Circuit) (f : File) (k : ℕ) → IsReadAgain c f
       → HasCircuitWitness c k ↔ HasWitness f k
-  pub lassos : (f : File) (j : ℕ) → HasFairRun f j ↔ ((k : ℕ) × HasFairLasso f j k)
+  pub lassos : (f : File) (fairness : Fairness)
+      → HasFairRun f fairness ↔ ((k : ℕ) × HasFairLasso f fairness k)
   pub certify : (f g : File) (limit bound k : ℕ) → Fits f limit → Fits g bound → HasLinesOf g f
       → IsCircuitSafeAt (certified (circuit_of f) (circuit_of g)) k → IsSafeAt f k
 
@@ -77,31 +80,35 @@ module _ (known : Known) where
 
   -- ---- of one file
 
+  -- a made circuit is safe exactly where what its text's bad states stand for isn't so
+  made_shows : (m : Circuit) (P : Type 0) (k : ℕ) → IsReadAgain m (file_of Text m)
+      → HasWitness (file_of Text m) k ↔ P → IsCircuitSafeAt m k ↔ (¬ P)
+  made_shows m P k again shows =
+      let same = known.written m (file_of Text m) k again in (
+        λ safe is. safe (same.1 (shows.1 is)),
+        λ none w. none (shows.0 (same.0 w)),
+      )
+
   module _ (f : File) (limit : ℕ) (fits : Fits f limit) (m : Circuit) where
     pub file_shows : (own : FileSubject) → IsFileSubject own f m → (k : ℕ)
         → IsCircuitSafeAt m k ↔ FileShowsAt own f k
     file_shows Own is k =
         subst (λ (c : Circuit). IsCircuitSafeAt c k ↔ IsSafeAt f k) (sym is)
         (known.machines f limit k fits)
-    file_shows (Live property) is k =
-        let same = known.written m (file_of Text m) k is.again in (
-          λ safe lasso. safe (same.1 ((is.shows k).1 lasso)),
-          λ none w. none ((is.shows k).0 (same.0 w)),
-        )
-    file_shows (Rounds property rounds) is k =
-        let same = known.written m (file_of Text m) k is.again in (
-          λ safe ended. safe (same.1 ((is.shows k).1 ended)),
-          λ none w. none ((is.shows k).0 (same.0 w)),
-        )
+    file_shows (Live fairness) is k = made_shows m _ k is.again (is.shows k)
+    file_shows (Rounds fairness rounds) is k = made_shows m _ k is.again (is.shows k)
+    file_shows (Property number) is k = made_shows m _ k is.again (is.shows k)
+    file_shows Possible is k = made_shows m _ k is.again (is.shows k)
+    file_shows Outputs is k = made_shows m _ k is.again (is.shows k)
 
     pub file_always : (own : FileSubject) → IsFileSubject own f m
         → ((k : ℕ) → IsCircuitSafeAt m k) → FileShowsAlways own f
-    file_always Own is safe = λ k. (file_shows Own is k).0 (safe k)
-    file_always (Live property) is safe = λ run.
-        let lasso = (known.lassos f property).0 run in
-        (file_shows (Live property) is lasso.0).0 (safe lasso.0) lasso.1
-    file_always (Rounds property rounds) is safe =
+    file_always (Live fairness) is safe = λ run.
+        let lasso = (known.lassos f fairness).0 run in
+        (file_shows (Live fairness) is lasso.0).0 (safe lasso.0) lasso.1
+    file_always (Rounds fairness rounds) is safe =
         is.none (λ k w. safe k ((known.written m (file_of Text m) k is.again).1 w))
+    file_always own is safe = λ k. (file_shows own is k).0 (safe k)
 
   -- ---- of two
 

@@ -1,4 +1,5 @@
 pub mod Reads
+pub mod FileSubjects
 pub mod Subjects
 pub mod Shown
 pub mod Parts

@@ -1,27 +1,15 @@
 -- Part of what is promised.
--- What the safety of a subject's circuit says of the files. (AIGER 1.9, "Properties": bad states,
--- justice and fairness; equivalence checking.)
+-- What the safety of a subject's circuit says of the files. (Equivalence checking.)
 use Rattle.std.specs.Prelude.{ℕ, List, [], ◌∷◌}
-use Rattle.aig_edit_laws.specs.Fair.{HasFairLasso, HasFairRun}
-use Rattle.aig_edit_laws.specs.Rounds.{HasMachineRounds}
 use Rattle.aig_format.specs.File.{File}
 use Rattle.aig_join.specs.Constraints.{AreEqualMachinesBy}
 use Rattle.aig_join.specs.Files.{HaveSameFileCounts}
 use Rattle.aig_join.specs.declared.comparison.Comparison.{Comparison}
-use Rattle.aig_runs.specs.Safety.{IsSafeAt}
-use Rattle.aig_subjects.specs.declared.subject.FileSubject.{FileSubject}
-use Rattle.aig_subjects.specs.declared.subject.FileSubject.TheVariants.{Live, Own, Rounds}
+use Rattle.aig_subjects.specs.FileSubjects.{FileShowsAlways, FileShowsAt}
 use Rattle.aig_subjects.specs.declared.subject.Subject.{Subject}
 use Rattle.aig_subjects.specs.declared.subject.Subject.TheVariants as subjects
 
 -- ---- at a step
-
--- that of FILE's circuit: no bad state is reached there, no fair lasso ends there, or so many
--- rounds end in no run to there
-abbrev pub FileShowsAt : FileSubject → File → ℕ → Type 0
-FileShowsAt Own f k = IsSafeAt f k
-FileShowsAt (Live property) f k = ¬ HasFairLasso f property k
-FileShowsAt (Rounds property rounds) f k = ¬ HasMachineRounds f property rounds k
 
 -- that of a miter: the files have the same counts, and their machines are equal there
 abbrev pub PairShowsAt : Comparison → File → File → ℕ → Type 0
@@ -36,12 +24,6 @@ ShowsAt (subjects.MiterCertified comparison) (f ∷ g ∷ h ∷ []) k = PairShow
 ShowsAt subject files k = ⊥
 
 -- ---- at every step
-
--- that of FILE's circuit: no bad state is reached at any step, or there is no fair run
-abbrev pub FileShowsAlways : FileSubject → File → Type 0
-FileShowsAlways Own f = (k : ℕ) → IsSafeAt f k
-FileShowsAlways (Live property) f = ¬ HasFairRun f property
-FileShowsAlways (Rounds property rounds) f = ¬ HasFairRun f property
 
 -- that of a miter: they are equal at every step
 abbrev pub ShowsAlways : Subject → List File → Type 0

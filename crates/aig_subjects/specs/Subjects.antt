@@ -9,9 +9,6 @@ use Rattle.aig_edits.specs.Circuits.{IsJoinOf}
 use Rattle.aig_edits.specs.Edits.{IsEditOwn, edit_verdict}
 use Rattle.aig_edits.specs.Joints as joints
 use Rattle.aig_edits.specs.Joints.{IsJointOf, IsOfBeside, IsRefusalOf, second_verdict}
-use Rattle.aig_edits.specs.Lives.{IsLiveFile, IsLiveRefusal}
-use Rattle.aig_edits.specs.Rounds.{IsRoundsFile, IsRoundsRefusal}
-use Rattle.aig_edits.specs.declared.edit_error.EditError.{EditError}
 use Rattle.aig_edits.specs.declared.pair_error.PairError.{PairError}
 use Rattle.aig_edits.specs.declared.pair_error.PairError.TheVariants as pairs
 use Rattle.aig_edits.specs.declared.pairing.Pairing.TheVariants as pairings
@@ -20,10 +17,9 @@ use Rattle.aig_format.specs.File.{File}
 use Rattle.aig_format.specs.Writable.{FitsFormat}
 use Rattle.aig_join.specs.Certificate.{HasLeavesOf, certified}
 use Rattle.aig_reader.specs.Verdicts.{Accepted, Verdict, verdict_of}
+use Rattle.aig_subjects.specs.FileSubjects.{IsFileSubject, IsUnmadeFile}
 use Rattle.aig_subjects.specs.declared.error.SubjectError.{SubjectError}
 use Rattle.aig_subjects.specs.declared.error.SubjectError.TheVariants as errors
-use Rattle.aig_subjects.specs.declared.subject.FileSubject.{FileSubject}
-use Rattle.aig_subjects.specs.declared.subject.FileSubject.TheVariants.{Live, Own, Rounds}
 use Rattle.aig_subjects.specs.declared.subject.Subject.{Subject}
 use Rattle.aig_subjects.specs.declared.subject.Subject.TheVariants as subjects
 
@@ -33,25 +29,6 @@ file_count (subjects.File own) = 1
 file_count (subjects.Miter comparison) = 2
 file_count (subjects.Certified own) = 2
 file_count (subjects.MiterCertified comparison) = 3
-
--- ---- of one file
-
--- the circuit of FILE
-abbrev pub IsFileSubject : FileSubject → File → Circuit → Type 0
-IsFileSubject Own f m = m ≡ circuit_of f
-IsFileSubject (Live property) f m = IsLiveFile property f m
-IsFileSubject (Rounds property rounds) f m = IsRoundsFile property rounds f m
-
--- why there is none
-abbrev pub IsUnmadeFile : FileSubject → File → EditError → Type 0
-IsUnmadeFile Own f e = ⊥
-IsUnmadeFile (Live property) f e = IsLiveRefusal property f e
-IsUnmadeFile (Rounds property rounds) f e = IsRoundsRefusal property rounds f e
-
--- the lists are those of its circuit, or it is said why there are none
-abbrev pub GivesFile : FileSubject → File → Result CircuitLists EditError → Type 0
-GivesFile own f (Ok lists) = IsFileSubject own f (lists_circuit lists)
-GivesFile own f (Err e) = IsUnmadeFile own f e
 
 -- ---- of all
 

@@ -8,5 +8,5 @@ mod subject;
 
 pub use error::SubjectError;
 pub use laws::{safe_subjects_show, subjects_are_of_files};
-pub use reading::{read_file_subject, read_subject};
-pub use subject::{FileSubject, Subject};
+pub use reading::read_subject;
+pub use subject::{FileSubject, Subject, read_file_subject};

@@ -3,65 +3,19 @@
 ghost use Rattle.std.specs.Prelude.{◌≡◌, ◌^◌, ◌<◌, ◌≤◌, IfOk, length};
 ghost use Rattle.aig_circuit.specs.Circuit.{IsCircuit};
 ghost use Rattle.aig_circuit.specs.View.{lists_circuit};
-ghost use Rattle.aig_edits.specs.Edits.{IsEditOwn, ReadsFile, edit_verdict};
+ghost use Rattle.aig_edits.specs.Edits.{ReadsFile};
 ghost use Rattle.aig_subjects.specs.Parts.{GivesBeside, IsOfCertificate, ReadsMiter, certificate_verdict};
 ghost use Rattle.aig_subjects.specs.Reads.{ReadsFiles};
-ghost use Rattle.aig_subjects.specs.Subjects.{Gives, GivesFile, IsOwn, IsReady, file_count, verdicts};
-ghost use Rattle.aig_subjects.specs.declared.subject.FileSubject.TheVariants.{Own};
+ghost use Rattle.aig_subjects.specs.Subjects.{Gives, IsOwn, IsReady, file_count, verdicts};
 
 use crate::error::SubjectError;
 use crate::laws::subjects_are_of_files;
-use crate::subject::{FileSubject, Subject};
+use crate::subject::{Subject, read_file_subject};
 use aig_base::Source;
 use aig_circuit::CircuitLists;
-use aig_edits::{
-    Comparison, EditError, PairError, Pairing, read_beside, read_joint, read_live, read_rounds,
-};
+use aig_edits::{Comparison, PairError, Pairing, read_beside, read_joint};
 use aig_format_laws::files_are_circuits;
 use std::alloc::Global;
-
-/// Reads FILE's own circuit.
-fn read_own<R: Source>(alloc: Global, file: &mut R, limit: usize) -> Result<CircuitLists, EditError>
-    requires some { 1 ≤ limit }
-    requires few { limit ≤ 2 ^ 31 }
-    ensures reads { ReadsFile R.left R.failed limit (GivesFile Own) edit_verdict
-        IsEditOwn file.old result file.new }
-    ensures circuit { IfOk result (λ lists. IsCircuit (lists_circuit lists)) }
-{
-    files_are_circuits();
-    Ok(aig_reader::read(alloc, file, limit)?)
-}
-
-/// Reads a file in the AIGER format, and makes a circuit of it. Requires `1 <= limit <= 2^31`.
-///
-/// # Errors
-///
-/// - `Read`: the file is refused.
-/// - `NoJustice`, `TooLarge`, `Memory`: as of `aig_edits::read_live` and `aig_edits::read_rounds`.
-pub fn read_file_subject<R: Source>(
-    alloc: Global,
-    subject: FileSubject,
-    file: &mut R,
-    limit: usize,
-) -> Result<CircuitLists, EditError>
-    requires some { 1 ≤ limit }
-    requires few { limit ≤ 2 ^ 31 }
-    // The bytes that were read are a file, and the lists are those of its circuit, or it is said why there is none.
-    ensures reads { ReadsFile R.left R.failed limit (GivesFile subject) edit_verdict IsEditOwn
-        file.old result file.new }
-    // Each question can be asked of it.
-    ensures ready { IfOk result (λ lists. IsReady (lists_circuit lists)) }
-{
-    files_are_circuits();
-    subjects_are_of_files();
-    match subject {
-        FileSubject::Own => read_own(alloc, file, limit),
-        FileSubject::Live { property } => read_live(alloc, property, file, limit),
-        FileSubject::Rounds { property, rounds } => {
-            read_rounds(alloc, property, rounds, file, limit)
-        }
-    }
-}
 
 /// Reads the first two files, and makes their miter.
 fn read_miter<S: Source>(

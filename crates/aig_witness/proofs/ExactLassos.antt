@@ -12,6 +12,7 @@ use Rattle.aig_format.proofs.Circuits.{IsCircuit-of_file}
 use Rattle.aig_format_laws.proofs.Joining.{leaves_of}
 use Rattle.aig_live.specs.Met.{IsMet}
 use Rattle.aig_live.specs.Lassos.{IsLasso}
+use Rattle.aig_edit_laws.specs.declared.fairness.Fairness.TheVariants.{Justice}
 use Rattle.aig_edit_laws.proofs.Files.{asked_known, lasso_forth}
 use Rattle.aig_ternary.specs.Ternary.{value_in}
 use Rattle.aig_witness.specs.declared.fault.WitnessFault.{WitnessFault}
@@ -57,8 +58,8 @@ module _ (f : File) (limit l : ℕ) (w : Witness) (fits : Fits f limit) (given :
   literals = shows.asked.0
 
   lasso : IsLasso (map (edge_of f) literals) c l last x
-  lasso = lasso_forth f limit l last literals run fits (asked_known f limit w.bad literals fits
-      shows.asked.1) (shows.each run shows.there.1 shows.there.2)
+  lasso = lasso_forth f limit l last literals run fits (asked_known f limit (Justice w.bad) literals
+      fits shows.asked.1) (shows.each run shows.there.1 shows.there.2)
 
   named : w.bad < length f.properties.justice
   named = slice_get_within f.properties.justice w.bad shows.asked.1.0 shows.asked.1.1

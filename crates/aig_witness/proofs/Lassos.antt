@@ -14,6 +14,7 @@ use Rattle.aig_format_laws.specs.Nodes.{HasNodeValues}
 use Rattle.aig_format_laws.proofs.Joining.{all_unmap, forth_values, latches_known, leaves_of, literal_is, nexts_known}
 use Rattle.aig_live.specs.Met.{IsMet}
 use Rattle.aig_edit_laws.specs.Fair.{AreAskedBy, IsFairLasso}
+use Rattle.aig_edit_laws.specs.declared.fairness.Fairness.TheVariants.{Justice}
 use Rattle.aig_edit_laws.proofs.Files.{asked_known, met_back}
 use Rattle.aig_ternary.specs.Ternary.{value_in}
 use Rattle.aig_unroll.proofs.Lists.{zip_at}
@@ -38,8 +39,8 @@ both_known NONE a b ne h k = absurd (ne refl)
 abbrev pub asked_of : File → ℕ → List ℕ
 asked_of f j = get_or f.properties.justice j [] ++ f.properties.fairness
 
-pub asked_there : (f : File) (j : ℕ) → j < length f.properties.justice → AreAskedBy f j (asked_of f
-    j)
+pub asked_there : (f : File) (j : ℕ) → j < length f.properties.justice
+    → AreAskedBy f (Justice j) (asked_of f j)
 asked_there f j h = (
   get_or f.properties.justice j [],
   slice_get-get_or f.properties.justice j [] h,
@@ -82,7 +83,7 @@ module _ (f : File) (limit l : ℕ) (w : Witness) (fits : Fits f limit) (hold : 
   abbrev literals : List ℕ
   literals = asked_of f w.bad
 
-  asked : AreAskedBy f w.bad literals
+  asked : AreAskedBy f (Justice w.bad) literals
   asked = asked_there f w.bad named
 
   abbrev edges : List AigEdge
@@ -195,8 +196,8 @@ module _ (f : File) (limit l : ℕ) (w : Witness) (fits : Fits f limit) (hold : 
       };
       order = in_order;
       loops = moves;
-      fair = met_back f limit last fits literals (asked_known f limit w.bad literals fits asked) x
-          run values l are_met;
+      fair = met_back f limit last fits literals
+          (asked_known f limit (Justice w.bad) literals fits asked) x run values l are_met;
     }
 
   pub shows_lasso : ShowsLasso f w l

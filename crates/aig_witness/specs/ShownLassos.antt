@@ -4,6 +4,7 @@ use Rattle.std.specs.Prelude.{ℕ, ◌-◌, ◌<◌, Bool, List, length}
 use Rattle.aig_format.specs.File.{File}
 use Rattle.aig_format.specs.Machine.{IsMachineRun}
 use Rattle.aig_edit_laws.specs.Fair.{AreAskedBy, IsFairLasso}
+use Rattle.aig_edit_laws.specs.declared.fairness.Fairness.TheVariants.{Justice}
 use Rattle.aig_witness.specs.Machine.{HasGiven}
 use Rattle.aig_witness.specs.Witness.{Witness}
 
@@ -12,6 +13,6 @@ use Rattle.aig_witness.specs.Witness.{Witness}
 pub record ShowsLasso (f : File) (w : Witness) (l : ℕ) : Type 0 where
   pub some : 0 < length w.steps
   pub there : (run : ℕ → ℕ → Bool) × IsMachineRun f (length w.steps - 1) run × HasGiven f w run
-  pub asked : (literals : List ℕ) × AreAskedBy f w.bad literals
+  pub asked : (literals : List ℕ) × AreAskedBy f (Justice w.bad) literals
   pub each : (run : ℕ → ℕ → Bool) → IsMachineRun f (length w.steps - 1) run → HasGiven f w run
       → IsFairLasso f asked.0 l (length w.steps - 1) run

@@ -1,5 +1,4 @@
-"""Files in AIGER form, text and binary: what they say, as lists of literals, and gates over
-these."""
+"""Reads and writes AIGER files, text and binary, as lists of literals and gates over these."""
 from __future__ import annotations
 
 import contextlib
@@ -22,7 +21,7 @@ Names = dict[tuple[str, int], bytes]
 
 
 class Fault(Exception):
-    """Why a file isn't taken, or there is no answer."""
+    """An error: why a file is refused, or why there is no answer."""
 
 
 def decimal(digits: bytes) -> int:
@@ -45,7 +44,7 @@ def encoded(name: str) -> bytes:
 
 
 class Lines:
-    """A stream of bytes that is read from the front, and what it is called in faults."""
+    """A stream of bytes that is read from the front, with the name that errors give it."""
 
     def __init__(self, data: bytes, what: str) -> None:
         self.data, self.place, self.what = data, 0, what
@@ -64,14 +63,14 @@ class Lines:
         return line
 
     def skip(self, count: int) -> None:
-        """Passes over so many lines."""
+        """Skips a number of lines."""
         *lines, rest = self.data[self.place:].split(b"\n", count)
         if len(lines) < count:
             raise Fault(f"{self.what} ends too early")
         self.place = len(self.data) - len(rest)
 
     def numbers(self, least: int, most: int) -> list[int]:
-        """Returns a line of so many numbers."""
+        """Returns a line with a given count of numbers."""
         words = self.line().split(b" ")
         if not least <= len(words) <= most or not all(word.isdigit() for word in words):
             raise Fault(f"{self.what} has a bad line of numbers")
@@ -82,16 +81,16 @@ class Lines:
         return self.numbers(1, 1)[0]
 
     def rows(self, count: int, width: int) -> list[tuple[int, ...]]:
-        """Returns so many lines of so many numbers each.
+        """Returns a number of lines, each with a given count of numbers.
 
-        Many are read at once, but not all: meanwhile no other thread of Python's goes on."""
+        Many are read at once, but not all, because no other thread of Python runs meanwhile."""
         found: list[tuple[int, ...]] = []
         while len(found) < count:
             found += self.block(min(count - len(found), BLOCK), width)
         return found
 
     def block(self, count: int, width: int) -> list[tuple[int, ...]]:
-        """Returns so many such lines, which are read at once."""
+        """Returns a number of such lines, which are read at once."""
         end = self.place - 1
         for _ in range(count):
             end = self.data.find(b"\n", end + 1)
@@ -109,7 +108,7 @@ class Lines:
         return [tuple(self.numbers(width, width)) for _ in range(count)]
 
     def skip_differences(self, count: int) -> None:
-        """Passes over so many of the numbers that `differences` reads."""
+        """Skips a number of the numbers that `differences` reads."""
         while count:
             groups = self.data[self.place:self.place + count]
             if not groups:
@@ -118,7 +117,7 @@ class Lines:
             count -= len(groups.translate(None, GOES_ON))
 
     def differences(self, count: int) -> list[int]:
-        """Returns so many numbers in groups of seven bits, the lowest first."""
+        """Returns a number of numbers in groups of seven bits, the lowest first."""
         found, number, shift = [], 0, 0
         for size, group in enumerate(self.data[self.place:] if count else b"", 1):
             number |= (group & 127) << shift
@@ -153,7 +152,7 @@ class Header:
         self.bads, self.constraints, self.justice, self.fairness = self.counts[5:9]
 
     def count(self, circuit: Circuit, greatest: int) -> None:
-        """Counts again what a circuit has, up to this greatest variable."""
+        """Sets the counts to those of a circuit with this greatest variable."""
         of: list[Sequence[object]] = [circuit.inputs,
                                       circuit.latches, circuit.outputs, circuit.gates,
                                       circuit.bads, circuit.constraints, circuit.justice]
@@ -176,7 +175,7 @@ class Symbols:
 
 
 class Circuit:
-    """What a file says: its lists of literals, its gates in order, and its names."""
+    """A circuit as its file has it: lists of literals, gates in order, and names."""
 
     def __init__(self, lines: Lines, limit: int = LIMIT) -> None:
         self.what = lines.what
@@ -207,7 +206,7 @@ class Circuit:
         self.put_in_order()
 
     def check(self) -> None:
-        """Refuses what is defined twice, or used and not defined."""
+        """Raises a fault if a literal is defined twice, or is used and not defined."""
         defined = [*self.inputs, *self.latches, *(gate for gate, _, _ in self.gates)]
         known = {0, *defined}
         if len(known) <= len(defined) or any(literal & 1 for literal in defined):
@@ -219,7 +218,7 @@ class Circuit:
             raise Fault(f"literal {unknown} is not defined in {self.what}")
 
     def put_in_order(self) -> None:
-        """Puts each gate behind those that it stands on, if that isn't so."""
+        """Puts each gate behind its operands, unless it is there already."""
         leaves = [0, *self.inputs, *self.latches]
         nodes = itertools.chain(leaves, (gate for gate, _, _ in self.gates))
         places = {literal: i for i, literal in enumerate(nodes)}
@@ -242,7 +241,7 @@ class Circuit:
         return [i for i, reset in enumerate(self.resets) if reset > 1]
 
     def with_lists(self, **lists: Any) -> Circuit:
-        """Returns the circuit with other lists, by their names."""
+        """Returns a copy of the circuit with other lists, by their names."""
         made = copy.copy(self)
         for name, own in lists.items():
             setattr(made, name, own)
@@ -308,7 +307,7 @@ def differences(numbers: Iterable[int]) -> bytes:
 
 
 def binary_gates(lines: Lines, count: int, first: int) -> list[Gate]:
-    """Returns so many gates of the binary form from this literal on, by their differences."""
+    """Returns a number of gates of the binary form from this literal on, by their differences."""
     numbers = lines.differences(2 * count)
     gates = [(gate, gate - one, gate - one - two)
              for gate, one, two in zip(itertools.count(first, 2), numbers[::2], numbers[1::2])]
@@ -356,15 +355,15 @@ class Gates:
         return made
 
     def take(self, left: int, right: int, literal: int) -> None:
-        """Has another literal stand for an and from now on."""
+        """Replaces an and by another literal from now on."""
         self.made[max(left, right), min(left, right)] = literal
 
     def any(self, literals: Iterable[int]) -> int:
-        """Returns the literal of an or, as a tree."""
+        """Returns the literal of the or of several literals, as a tree."""
         return self.all([literal ^ 1 for literal in literals]) ^ 1
 
     def all(self, literals: Iterable[int]) -> int:
-        """Returns the literal of an and of many, as a tree."""
+        """Returns the literal of the and of several literals, as a tree."""
         literals = list(literals) or [1]
         while len(literals) > 1:
             pairs = [self.both(left, right) for left, right in zip(literals[::2], literals[1::2])]
@@ -377,7 +376,7 @@ class Gates:
 
 
 def binary(inputs: int, nexts: Sequence[int], outputs: Sequence[int], gates: Gates) -> bytes:
-    """Returns the binary form of a machine of so many inputs, whose latches are 0 initially, by
+    """Returns the binary form of a circuit with a number of inputs, whose latches start with 0, by
     literals."""
     count = len(gates.rows)
     header = f"aig {inputs + len(nexts) + count} {inputs} {len(nexts)} {len(outputs)} {count}"
@@ -387,8 +386,9 @@ def binary(inputs: int, nexts: Sequence[int], outputs: Sequence[int], gates: Gat
 
 
 def literals_of(circuit: Circuit, gates: Gates, leaves: Mapping[int, int]) -> Callable[[int], int]:
-    """Returns the literals that stand for those of a circuit, whose leaves stand for these: a
-    function."""
+    """Returns a function from literals of a circuit to the literals that stand for them.
+
+    `leaves` has those that stand for the circuit's leaves."""
     known = {0: 0, **leaves}
 
     def literal(of: int) -> int:

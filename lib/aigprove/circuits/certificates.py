@@ -1,6 +1,6 @@
 """Certificates in the form of the hardware model checking competition: a witness circuit, whose
 first inputs and latches are the file's, in order, with their resets and next values, and whose
-property is inductive and implies the file's. Nothing here is believed."""
+property is inductive and implies the file's. aigcheck checks what this module makes."""
 from collections.abc import Callable, Iterable, Iterator, Mapping
 
 from aigprove.circuits.aiger import Circuit, Gates, literals_of, symbols, text_form
@@ -10,8 +10,8 @@ STANDS = b"= "
 
 
 class Frame:
-    """A state before the one that there is, in latches of the certificate's own: whether it is
-    kept, its latches and its inputs."""
+    """An earlier state, in latches of the certificate's own: whether it is kept, its latches and
+    its inputs."""
 
     def __init__(self, circuit: Circuit, first: int) -> None:
         self.kept, self.state = first, range(first + 2, first + 2 + 2 * len(circuit.latches), 2)
@@ -27,7 +27,7 @@ class Frame:
 
 
 class WitnessCircuit:
-    """The gates over a circuit's leaves, and so many frames behind them."""
+    """The gates over a circuit's leaves, and a number of frames behind them."""
 
     def __init__(self, circuit: Circuit, frames: int = 0) -> None:
         self.circuit, inputs, latches = circuit, len(circuit.inputs), len(circuit.latches)
@@ -58,13 +58,13 @@ class WitnessCircuit:
                               for literal, reset in zip(state, self.circuit.resets) if reset < 2)
 
     def exclude(self, given: Circuit) -> None:
-        """Has the states be bad that are bad in a machine with the same latches."""
+        """Makes those states bad that are bad in a circuit with the same latches."""
         leaves = dict([*zip(given.inputs, self.inputs), *zip(given.latches, self.state)])
         literal = literals_of(given, self.gates, leaves)
         self.bads += [*map(literal, given.bads), *(literal(it) ^ 1 for it in given.constraints)]
 
     def remember(self) -> None:
-        """Has the states be bad whose frames aren't the last good states of a run."""
+        """Makes those states bad whose frames aren't the last good states of a run."""
         before, state = 1, self.state
         for frame in self.frames:
             literal = self.literals(frame.leaves(self.circuit))

@@ -21,7 +21,7 @@ def places_of(trace: Witness, opened: Iterable[int]) -> list[Place]:
 
 
 def without(trace: Witness, places: Iterable[Place]) -> Witness:
-    """Returns a run without the values at these places."""
+    """Returns a copy of a run without the values at these places."""
     rows = [list(row) for row in [trace.start, *trace.steps]]
     for t, i in places:
         rows[t][i] = "x"

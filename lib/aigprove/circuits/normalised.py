@@ -2,11 +2,11 @@
 counterexamples (write_cex), and invariants in PLA form.
 
 All latches of that machine are 0 initially, its outputs are 1 in bad states, and it has no
-constraints. A latch that is 1 at first is inverted; one that is open at first takes an input's
-value at step 0, while the latch `began` is 0; and the latch `broken` is 1 once a constraint didn't
-hold. A machine without latches gets one that is spare. Inputs and latches are named by their places
-in the file (i0, l0), and the value of an open latch l0 is the input r0, so that what an engine says
-is told by names."""
+constraints. A latch that starts with 1 is inverted. An uninitialised latch takes the value of an
+input at step 0, while the latch `began` is 0. The latch `broken` is 1 once a constraint was
+broken. If the circuit has no latches, it gets one without a use. Inputs and latches are named by
+their places in the file (i0, l0), and the value of an open latch l0 is the input r0, so that
+what an engine says is told by names."""
 import re
 from collections.abc import Mapping, Sequence
 
@@ -42,7 +42,7 @@ class Named:
     def rows(self, names: Sequence[str]) -> list[str]:
         """Returns a value for each of these names in each step.
 
-        A name that isn't there at some step has the value 0."""
+        A name that is missing at some step has the value 0."""
         # There is a line for each name and step.
         if self.length > LONGEST or self.length * len(names) > 2 * len(self.values):
             raise Fault("its counterexample has too many steps")
@@ -53,7 +53,7 @@ class Named:
 def parted(found: str) -> list[tuple[int, str]]:
     """Returns the place of the output and the text of each counterexample.
 
-    If none has a place there is one of the first output."""
+    If none has a place, the first output has one."""
     first, *others = FOUND.split(found)
     if not others:
         return [(0, first)] if "@0=" in first else []
@@ -84,8 +84,8 @@ def plain_rows(text: str) -> list[str]:
 def named_rows(text: str, circuit: Circuit) -> list[str]:
     """Returns the inputs of each step in what `write_cex -n` writes.
 
-    They have their names or ABC's own (pi0, pi1 ..). Those of step 0 that ABC put behind them come
-    behind them."""
+    They have their names or ABC's own (pi0, pi1 ..). At step 0, values that ABC
+    added stand behind the others."""
     named = Named(text)
     numbered = {int(name[2:]): name for t, name in named.values if t == 0 and OWN.fullmatch(name)}
     names = [circuit.name("i", i).decode("utf-8", "replace") for i in range(len(circuit.inputs))]

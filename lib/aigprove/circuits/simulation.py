@@ -1,6 +1,6 @@
-"""Runs of a circuit, simulated in three values, and many trials of one at once.
+"""Simulates runs of a circuit in three values, and many trials of one run at once.
 
-What is believed of a run aigcheck says."""
+aigcheck says whether a run shows what it claims."""
 from collections.abc import Iterable, Iterator, Mapping, Sequence
 
 from aigprove.circuits.aiger import Circuit

@@ -12,7 +12,7 @@ BLIF = ".blif"
 FRONTS = {
     **dict.fromkeys([".v", ".sv", ".vh", ".svh"], VERILOG),
     **dict.fromkeys([".il", ".rtlil"], "read_rtlil {file}"),
-    BLIF: "read_blif -wideports {file}\nformalff -clk2ff",
+    BLIF: "read_blif -wideports {file}\nformalff -clk2ff t:$dff",
     ".ys": SCRIPT,
 }
 STANDARD_INPUT = "-"
@@ -29,9 +29,10 @@ class Way(NamedTuple):
 
 
 NONE, WIRE = b"\n\n`default_nettype none\n", b"\n\n`default_nettype wire\n"
-# Where names without a declaration are refused; where they are nets, and what yosys reads is shown;
-# the same of texts whose macros are expanded; and where such names were declared, perhaps some of
-# them later, by yosys.
+# Where texts are shown and not read; where names without a declaration are refused; where they are
+# nets, and what yosys reads is shown; the same of texts whose macros are expanded; and where such
+# names were declared, perhaps some of them later, by yosys.
+EXPANDING = Way("-ppdump", "", b"")
 STRICT = Way("-ppdump -noautowire", "-ppdump -noautowire", NONE)
 LOOKING = Way("-ppdump -dump_ast1", "-dump_ast1", WIRE)
 AGAIN = Way("-nopp -dump_ast1", "-dump_ast1", WIRE)

@@ -13,10 +13,15 @@ from aigprove.designs.rtlil import Part, Signal, Statement, constant, modules_of
 # What an assertion, an assumption or a write that isn't enabled says, and whether it is enabled.
 UNREACHED, ENABLE = re.compile(r"\$[0-9]+\$(?:formal|memwr)\$\S+"), "_EN"
 PARALLEL = "\\parallel_case"
+# Cells with assertions.
+ASSERTIONS = {"$assert", "$assume", "$cover", "$live", "$fair"}
 # Cells that compare with x, or whose x are values of a memory.
 COMPARING, MEMORY = {"$eqx", "$nex"}, "$mem"
 # Statements of processes that may have values.
 VALUED = {"assign", "switch", "update"}
+# What a process does all the time or initially, and not at an edge; and the attribute of initial
+# values.
+UNTIMED, INIT = {"always", "init", "global"}, "\\init"
 INTERFACE, TOP, BOX = "\\is_interface", "\\top", "\\blackbox"
 # The attribute of a net that is joined with a signal in an instance.
 JOINED = "\\hierconn"
@@ -36,6 +41,7 @@ def opened(design: Statement) -> None:
         for it in module.all():
             it.attributes.pop(PARALLEL, None)
             settle(it)
+        let_go(module)
         free(module)
 
 
@@ -56,6 +62,31 @@ def is_disabled(statement: Statement) -> bool:
     target, source = statement.signals()
     bits = constant(source)
     return ENABLE in spelled(target) and bool(bits) and not bits.strip("0")
+
+
+def let_go(module: Statement) -> None:
+    """Drops what writes x at each of several edges to a net that nothing else in a module names, as
+    to variables of functions: without a driver it has any value, too, and yosys wants a constant of
+    an asynchronous reset."""
+    for process in module.of("process"):
+        edges = [sync for sync in process.of("sync") if sync.text not in UNTIMED]
+        written = [{it.text for it in sync.of("update") if is_x(it)} for sync in edges]
+        texts = set.intersection(*written) if len(edges) > 1 else set()
+        if texts:
+            every, own = (collections.Counter(word for it in part.all() for word in it.words())
+                          for part in [module, process])
+            alone = {wire.name for wire in module.of("wire") if INIT not in wire.attributes
+                     and every[wire.name] == own[wire.name] + 1}
+            for sync in edges:
+                sync.body = [it for it in sync.body
+                             if it.text not in texts or it.words()[0] not in alone]
+
+
+def is_x(update: Statement) -> bool:
+    """Returns whether a statement writes x to a whole net."""
+    target, source = update.signals()
+    bits = constant(source)
+    return len(target) == 1 and target[0].high is None and bool(bits) and not bits.strip("x")
 
 
 def valued(module: Statement) -> Iterator[Statement]:
@@ -108,7 +139,7 @@ class Cell(NamedTuple):
     @property
     def label(self) -> str:
         """The module's name, and its own if the design gives one."""
-        return self.module[1:] + (f".{self.name[1:]}" if self.name.startswith("\\") else "")
+        return base_of(self.module) + (f".{self.name[1:]}" if self.name.startswith("\\") else "")
 
 
 def cells_of(design: Statement) -> Iterator[Cell]:
@@ -122,6 +153,14 @@ def cells_of(design: Statement) -> Iterator[Cell]:
 def types_of(design: Statement) -> set[str]:
     """Returns the types of all cells of a design."""
     return {cell.type for module in design.of("module") for cell in module.of("cell")}
+
+
+def are_alike(design: Statement) -> bool:
+    """Returns whether several assertions of a module have one place, and no names."""
+    places = [(module.name, cell.source) for module in design.of("module")
+              for cell in module.of("cell")
+              if cell.type in ASSERTIONS and not cell.name.startswith("\\")]
+    return len(places) > len(set(places))
 
 
 def dots_in(name: str) -> Iterator[int]:

@@ -5,6 +5,7 @@ from collections.abc import Iterator, Mapping
 from typing import Any
 
 from aigprove.circuits.aiger import Fault
+from aigprove.designs.internal import COMPUTED
 
 # What a file of yosys's in JSON has; a bit of a net there: a number, or 0, 1, x or z; and a clock,
 # with whether its rising edges count.
@@ -13,6 +14,8 @@ Bit = int | str
 Clock = tuple[str, bool]
 
 CLOCKS = {"CLK", "RD_CLK", "WR_CLK"}
+# Cells that hold a value.
+HOLDING = re.compile(r"ff|latch|sr$|_sr_|mem|any", re.IGNORECASE)
 MANY = "--multiclock takes any, and a step is then a moment in which inputs and clocks may change"
 # What is behind the name of what a register holds; and the index of a bit.
 STORED, INDEX = ".stored", re.compile(r"(\[[0-9]+\])?$")
@@ -39,6 +42,26 @@ def names_of(module: Json) -> dict[Bit, str]:
     for name, net in ranked:
         names.update(dict.fromkeys(net["bits"], name))
     return names
+
+
+def spelled(module: Json, bit: Bit) -> str:
+    """Returns how a bit is called in messages: by its name, or by the first name that the design
+    has for something that depends on it, unless the bit's own name has a place of the source."""
+    names, left, seen = names_of(module), [bit], {bit}
+    readers = collections.defaultdict[Bit, list[Json]](list)
+    for cell in module["cells"].values():
+        for it in inputs_of(cell):
+            readers[it].append(cell)
+    for own in left if not isinstance(bit, str) else []:
+        name = names.get(own)
+        if name and not module["netnames"][name]["hide_name"]:
+            return name if own == bit else f"what {name} depends on"
+        if name and own == bit and COMPUTED.search(name):
+            return name
+        new = {it for cell in readers[own] for it in outputs(cell)} - seen
+        seen |= new
+        left += new
+    return "a constant" if isinstance(bit, str) else "a net without a name"
 
 
 def bits_of(module: Json) -> Iterator[tuple[Bit, str]]:
@@ -81,25 +104,69 @@ def outputs(cell: Json) -> list[Bit]:
             if cell["port_directions"].get(port) == "output" for bit in bits]
 
 
+def inputs_of(cell: Json) -> list[Bit]:
+    """Returns the bits that a cell reads."""
+    return [bit for port, bits in cell["connections"].items()
+            if cell["port_directions"].get(port) != "output" for bit in bits]
+
+
+def needed(module: Json) -> set[Bit]:
+    """Returns the bits on which ports, and cells that drive nothing, depend."""
+    makers = collections.defaultdict[Bit, list[Json]](list)
+    left = [bit for port in module["ports"].values() for bit in port["bits"]]
+    for cell in module["cells"].values():
+        driven = outputs(cell)
+        left += inputs_of(cell) if not driven else []
+        for bit in driven:
+            makers[bit].append(cell)
+    found = set(left)
+    while left:
+        for cell in makers.pop(left.pop(), []):
+            new = set(inputs_of(cell)) - found
+            found |= new
+            left += new
+    return found
+
+
+def loop_in(module: Json) -> list[str]:
+    """Returns the names of signals that depend on each other in one step, if there are such.
+
+    Each output of a cell is taken to depend on each of its inputs, as it may not."""
+    names, done, path = names_of(module), set[Bit](), dict[Bit, None]()
+    makers = {bit: cell for cell in module["cells"].values() if not HOLDING.search(cell["type"])
+              for bit in outputs(cell)}
+    left: list[tuple[Bit, bool]] = [(bit, False) for bit in makers]
+    while left:
+        bit, is_left = left.pop()
+        if is_left:
+            del path[bit]
+            done.add(bit)
+        elif bit in path:
+            cycle = list(path)[list(path).index(bit):]
+            return sorted({names[it] for it in cycle if it in names and names[it][0] != "$"})
+        elif bit in makers and bit not in done:
+            path[bit] = None
+            left.append((bit, True))
+            left += [(it, False) for it in inputs_of(makers[bit])]
+    return []
+
+
 def check_drivers(top: str, module: Json) -> None:
     """Refuses nets that are z at times or have several drivers, of which one may be a constant."""
-    names, driven = names_of(module), set()
+    driven = set[Bit]()
     valued = [cell for cell in module["cells"].values() if cell["type"] not in ("$eqx", "$nex")]
-    open_bits = [names.get((outputs(cell) or [""])[0])
-                 for cell in valued if any("z" in bits for bits in cell["connections"].values())]
+    open_bits = [spelled(module, bit) for cell in valued for bit in outputs(cell) or [""]
+                 if any("z" in bits for bits in cell["connections"].values())]
     for name in open_bits + [name
                              for name, net in module["netnames"].items() if "z" in net["bits"]]:
         raise Fault(f"{top}: {name} is z at times, and tristate is not taken")
-    inputs = [(name, bit) for name, port in module["ports"].items() if port["direction"] == "input"
+    inputs = [bit for port in module["ports"].values() if port["direction"] == "input"
               for bit in port["bits"]]
-    read = {bit for port in module["ports"].values() for bit in port["bits"]}
-    for cell in module["cells"].values():
-        read.update(bit for port, bits in cell["connections"].items()
-                    if cell["port_directions"].get(port) != "output" for bit in bits)
-    for name, bit in inputs + [(names.get(bit), bit) for cell in valued for bit in outputs(cell)]:
-        # One that nothing reads may be the variable of loops.
+    read = needed(module)
+    for bit in inputs + [bit for cell in valued for bit in outputs(cell)]:
+        # One on which nothing depends may be the variable of loops.
         if isinstance(bit, str) or bit in driven and bit in read:
-            raise Fault(f"{top}: {name} has several drivers")
+            raise Fault(f"{top}: {spelled(module, bit)} has several drivers")
         driven.add(bit)
 
 
@@ -108,25 +175,26 @@ def clock_of(top: str, module: Json) -> Clock | None:
 
     Several are refused by name."""
     names = names_of(module)
-    clocks: set[Clock] = set()
+    clocks: dict[Clock, Bit] = {}
     read: set[str | None] = set()
     for cell in module["cells"].values():
         for port, bits in cell["connections"].items():
             if port in CLOCKS:
                 edge = cell["parameters"].get(f"{port}_POLARITY", "1")
-                clocks.update((names.get(bit, str(bit)), "1" in edge) for bit in bits)
+                clocks.update(((names.get(bit, str(bit)), "1" in edge), bit) for bit in bits)
             elif cell["port_directions"].get(port) != "output":
                 read.update(names.get(bit) for bit in bits)
     if len(clocks) > 1:
-        shown = " and ".join(f"{name} ({'rising' if rising else 'falling'})"
-                             for name, rising in sorted(clocks))
+        shown = " and ".join(
+            f"{spelled(module, clocks[clock])} ({'rising' if clock[1] else 'falling'})"
+            for clock in sorted(clocks))
         raise Fault(f"{top} has several clocks, and one is taken: {shown} ({MANY})")
-    for clock, _ in clocks:
+    for (clock, _), bit in clocks.items():
         if clock in read:
             raise Fault(f"{top} reads its clock {clock} as a value too ({MANY})")
         if module["ports"].get(clock, {"direction": ""})["direction"] != "input":
-            raise Fault(
-                f"{top} makes its clock {clock} itself, and one that is an input is taken ({MANY})")
+            raise Fault(f"{top} makes its clock itself, and one that is an input is taken: "
+                        f"{spelled(module, bit)} ({MANY})")
         if clock.endswith(";"):
             raise Fault(
                 f"{top} has the clock {clock}, and in a script of yosys a name can't end so")

@@ -1,16 +1,21 @@
 """Reading a design by yosys, as far as its top module has it, and what isn't asked about in it."""
+import collections
 import functools
+import itertools
 import re
 from collections.abc import Container, Iterable, Iterator, Mapping, Sequence
 
 from aigprove import data
 from aigprove.circuits.aiger import Fault
 from aigprove.designs import modules, scripts
-from aigprove.designs.front_ends import (AGAIN, ASSERT, COVER, FAIR, FRONTS, LIVE, LOOKING, STRICT,
-                                         VERILOG, File, Way)
+from aigprove.designs.front_ends import (AGAIN, ASSERT, COVER, DECLARED, EXPANDING, FAIR, FRONTS,
+                                         LIVE, LOOKING, STRICT, VERILOG, File, TranslationTimeout,
+                                         Way)
 from aigprove.designs.modules import BOX, JOINED, TOP, Cell, base_of, opened, source_of, types_of
+from aigprove.designs.registers import widened
 from aigprove.designs.rtlil import Statement, modules_of, write
-from aigprove.designs.texts import BIND, Text, bound, expanded, moved
+from aigprove.designs.sensitivity import lacking
+from aigprove.designs.texts import BIND, Text, bound, expanded, moved, read_again, unread
 from aigprove.designs.yosys import REFUSED, WARNED, Run, Yosys
 from aigprove.options.options import DesignOptions
 from aigprove.processes.scheduler import Task
@@ -19,6 +24,14 @@ KINDS = {"$assert": "assertion", "$assume": "assumption",
          "$cover": "cover", "$live": "liveness assertion", "$fair": "fairness assumption"}
 ASKED = ("$assert", "$assume")
 WORD = re.compile(r"[A-Za-z_][A-Za-z0-9_$]*")
+# A place: its lines, each with a column.
+COLUMNS = re.compile(r":([0-9]+)\.[0-9]+-[0-9]+\.[0-9]+$")
+# How many blocks of a text are told of that lack something in their lists.
+NOTICED = 20
+# What yosys says of what it doesn't read, which may be written otherwise.
+UNREAD = re.compile("ERROR: (?:syntax error|System task|Can't resolve task name)")
+# What it says of two assertions with one label in a module, as generated blocks have them.
+UNNAMED = "Cannot add procedural assertion"
 # By what yosys says: what to do.
 HINTS = {
     "is not part of the design": "give its file too, or its ports alone, as an empty module",
@@ -50,6 +63,15 @@ class ReadDesign:
         if self.reset:
             self.put_reset()
         self.reading: Run | None = None
+        # The texts of the Verilog files in which something is written otherwise, and the folders'
+        # descriptors that are in them.
+        self.rewritten: dict[str, bytes] = {}
+        self.rewritten_in: Sequence[int] = ()
+        self.unmarked: dict[str, bytes] | None
+        # Lines of blocks that yosys takes for others; whether assertions in generated blocks read
+        # nets of these, and the texts without that.
+        self.noticed: list[str] = []
+        self.is_marked, self.unmarked = False, None
         try:
             self.left_out = self.read(options.top)
         except Fault:
@@ -85,9 +107,12 @@ class ReadDesign:
         """Returns the script that reads the design as far as a top module has it, in this way."""
         words = {"include": " ".join(f"-I {folder}" for folder in folders),
                  "words": way.words, "inner": way.inner}
-        fronts = [FRONTS[file.kind].format(file=copies[file.path], **words) for file in self.files]
+        files = self.verilog() if way is EXPANDING else self.files
+        fronts = [FRONTS[file.kind].format(file=copies[file.path], **words) for file in files]
         if self.options.define:
             fronts.insert(0, VERILOG.format(file=f"{made}/defines.v", include="", words=""))
+        if way is EXPANDING:
+            return "\n".join(fronts)
         # A box whose outputs are free is an empty module.
         fronts += [f"setattr -mod -unset blackbox ={name}" for name in self.options.black_box]
         script = scripts.LOOK if way in (LOOKING, AGAIN) else scripts.READ
@@ -129,6 +154,7 @@ class ReadDesign:
         for module in found.values():
             modules.renamed(module)
         opened(design)
+        widened(design)
         self.yosys.put("below.il", write(design))
         return list(modules.cells_of(self.every())), below
 
@@ -145,7 +171,13 @@ class ReadDesign:
             return {path: moved(text, before, now) + way.end for path, text in texts.items()}
 
         script = functools.partial(self.script, top, way)
-        self.reading = self.yosys.read(script, self.options.include, texts_now)
+        try:
+            self.reading = self.yosys.read(script, self.options.include, texts_now)
+        except Fault as why:
+            # A file may have a name that no text spells.
+            if " open " not in str(why) or not self.yosys.link_all():
+                raise
+            self.reading = self.yosys.read(script, self.options.include, texts_now)
         return self.reading
 
     def read_on(self) -> str:
@@ -154,15 +186,76 @@ class ReadDesign:
         return self.reading.printed()
 
     def given(self) -> dict[str, bytes]:
-        """Returns the texts of the Verilog files."""
-        return {file.path: file.data for file in self.files if FRONTS[file.kind] == VERILOG}
+        """Returns the texts of the Verilog files as they are read: written otherwise, if yosys
+        doesn't read them as they are."""
+        return self.rewritten or {file.path: file.data for file in self.verilog()}
+
+    def verilog(self) -> list[File]:
+        """Returns the Verilog files."""
+        return [file for file in self.files if FRONTS[file.kind] == VERILOG]
 
     def declared(self, top: str) -> Statement:
         """Begins to read the design as far as a top module has it, and gives that in yosys's own
-        language, in which each name is declared."""
+        language, in which each name is declared, and assertions in generated blocks have names."""
+        while True:
+            try:
+                design = self.as_given(top)
+            except Fault as why:
+                if not self.is_changed(str(why)):
+                    raise
+                continue
+            if not self.is_marked and modules.are_alike(design):
+                self.read_on()
+                if self.is_changed(UNNAMED):
+                    continue
+            if self.is_marked:
+                # Few designs need it.
+                from aigprove.designs.labels import named
+
+                named(design)
+            return design
+
+    def is_changed(self, why: str) -> bool:
+        """Returns whether what yosys doesn't read, as it says, is now written as what it reads."""
+        is_unread, is_unnamed = UNREAD.search(why), UNNAMED in why
+        if self.is_marked or not is_unnamed and (self.rewritten or not is_unread):
+            # Without names of their own assertions can be asked about, too.
+            unmarked, self.unmarked = self.unmarked, None
+            self.rewritten = self.rewritten if unmarked is None else unmarked
+            return unmarked is not None
+        # Few designs need it.
+        from aigprove.designs.labels import marked
+        from aigprove.designs.rewriting import rewritten
+
+        texts = self.rewritten or self.expanded()
+        made = {path: marked(text) if is_unnamed else rewritten(text, self.options.stops)
+                for path, text in texts.items()}
+        self.is_marked = bool(is_unnamed)
+        if made != texts:
+            self.rewritten_in = self.rewritten_in or self.yosys.descriptors
+            self.unmarked = self.rewritten if is_unnamed else None
+            self.rewritten = made
+        return made != texts
+
+    def expanded(self) -> dict[str, bytes]:
+        """Returns the texts of the Verilog files once their macros are expanded; without any where
+        yosys can't do that, as then nothing can be written otherwise."""
+        given = self.given()
         try:
-            reading = self.begin(top, STRICT, self.given())
-            texts = [Text(text) for text in expanded(reading.data())]
+            reading = self.begin("", EXPANDING, {it: unread(text) for it, text in given.items()})
+            reading.printed()
+        except TranslationTimeout:
+            raise
+        except Fault:
+            return {}
+        return {path: read_again(text) for path, text in zip(given, expanded(reading.data()))}
+
+    def as_given(self, top: str) -> Statement:
+        """Returns the same of these texts."""
+        way = DECLARED if self.rewritten else STRICT
+        try:
+            reading = self.begin(top, way, self.given(), self.rewritten_in)
+            texts = list(map(Text, self.rewritten.values() or expanded(reading.data())))
             binds = any(BIND.search(text.words) for text in texts)
             if not WARNED.search(reading.said()) and not binds:
                 whole = self.yosys.design("below.il")
@@ -178,11 +271,16 @@ class ReadDesign:
         return self.looked_up(top)
 
     def check_texts(self, texts: Iterable[Text], whole: Statement) -> dict[str, Statement]:
-        """Refuses what yosys reads otherwise in these texts of a whole design, and gives its
-        modules."""
-        found = modules_of(whole)
+        """Refuses what yosys reads otherwise in these texts of a whole design, notes what it takes
+        for something else, and gives the design's modules."""
+        found, nets = modules_of(whole), collections.defaultdict[str, set[str]](set)
+        for name, module in found.items():
+            nets[source_of(name)] |= {it.name[1:] for it in module.of("wire")}
+        self.noticed = []
         for text in texts:
-            text.check(set(map(source_of, found)))
+            text.check(nets)
+            self.noticed += [self.yosys.told(f"{text.place(offset)}: {why}")
+                             for offset, why in itertools.islice(lacking(text, nets), NOTICED)]
         return found
 
     def looked_up(self, top: str) -> Statement:
@@ -191,9 +289,10 @@ class ReadDesign:
         # What looks names up takes long to be compiled.
         from aigprove.designs.names import Names
 
-        reading = self.begin(top, LOOKING, self.given())
-        said, before = reading.printed(), self.yosys.descriptors
-        texts = dict(zip(self.given(), expanded(reading.data())))
+        way = AGAIN if self.rewritten else LOOKING
+        reading = self.begin(top, way, self.given(), self.rewritten_in)
+        said, before = reading.printed(), self.rewritten_in or self.yosys.descriptors
+        texts = self.rewritten or dict(zip(self.given(), expanded(reading.data())))
         self.check_texts(map(Text, texts.values()), self.yosys.design("below.il"))
         if any(BIND.search(Text(text).words) for text in texts.values()):
             texts = bound(texts)
@@ -232,6 +331,12 @@ class ReadDesign:
                     "give its file too, or let its outputs have any values"
                 raise Fault(f"{why} (--black-box {base_of(name)})")
 
+    def told(self, place: str) -> str:
+        """Returns a place in the user's files: its lines alone if columns are those of what is
+        written otherwise."""
+        told = self.yosys.told(place)
+        return COLUMNS.sub(r":\1", told) if self.rewritten else told
+
     def passed_over(self, cell: Cell, is_below: bool) -> Iterator[tuple[str, str]]:
         """Yields a line of an assertion, or another such cell, that no bad state or constraint
         stands for, and its kind where another question may be about it: it has to be in a module
@@ -239,7 +344,7 @@ class ReadDesign:
         if cell.type in KINDS and not (is_below and cell.type in ASKED):
             is_later = is_below and (cell.type == COVER or self.has_lives)
             why = " with --multiclock" * (self.options.multiclock and cell.type in (LIVE, FAIR))
-            what = f"{KINDS[cell.type]} {cell.label} ({self.yosys.told(cell.place)})"
+            what = f"{KINDS[cell.type]} {cell.label} ({self.told(cell.place)})"
             yield cell.type if is_later else "", f"{what} is not asked about{why}"
 
     def put_reset(self) -> None:

@@ -60,6 +60,17 @@ def values_of(text: str, wanted: Container[str]) -> list[dict[str, str]]:
     return steps
 
 
+def marked(text: str, sampled: int, last: int) -> str:
+    """Returns a value change dump of yosys's, up to a last step, in which a signal is 1 in the step
+    that is sampled."""
+    head, begins, body = text.partition("$enddefinitions")
+    for t, value in {0: 0, sampled + 1: 0, sampled: 1}.items():
+        if t <= last:
+            body = re.sub(f"^#{STEP * t}$", f"#{STEP * t}\nb{value} sampled", body, 1, re.MULTILINE)
+    scope = "$scope module run $end\n$var wire 1 sampled sampled $end\n$upscope $end\n"
+    return head + scope + begins + body
+
+
 class Module:
     """A flat module in JSON of yosys's, and what each bit has: a name, and a cell that makes it."""
 
@@ -128,7 +139,7 @@ class Replay:
     def __init__(self, design: Design, circuit: Circuit, trace: Witness) -> None:
         if len(trace.steps) * len(circuit.gates) > SIMULATED:
             raise Fault(f"the run has {len(trace.steps)} steps")
-        failed, self.dump = design.run(trace)
+        failed, dump = design.run(trace)
         self.module, self.trace = design.module, trace
         name, last = design.assertions[trace.bad][0], len(trace.steps) - 1
         reads = self.module.read_by(name)
@@ -142,7 +153,10 @@ class Replay:
         names = list(dict.fromkeys(it.name for it in reads))
         seen = [name for name in names
                 if name not in inputs and read_as(name) not in set(names) - {name}]
-        self.values = values_of(self.dump, {*names, *words.values()})
+        self.values = values_of(dump, {*names, *words.values()})
+        # An assertion at a clock's edge is about the step that the edge ends.
+        is_at_edge = any(it.back for it in reads if it.is_direct)
+        self.dump = marked(dump, last - is_at_edge, last)
         self.latches = {int(place[1:]) for place, name in words.items() if name in names}
         at_first = {words[f"l{i}"] for i in self.latches}
         self.changes = {t: self.changed(t, seen, at_first) for t in range(last + 1)}
@@ -181,9 +195,8 @@ class Replay:
                   held: Mapping[str, str], words: Mapping[str, str]) -> str | None:
         """Returns a register that has another value where yosys runs the design than in the file,
         if there is one."""
-        steps = [row.replace("x", "0") for row in self.trace.steps]
-        for t, values in enumerate(simulation.run(circuit,
-                                                  self.trace.start.replace("x", "0"), steps)):
+        run = self.trace.filled()
+        for t, values in enumerate(simulation.run(circuit, run.start, run.steps)):
             for i, latch in enumerate(circuit.latches):
                 name, found = words[f"l{i}"], BIT.fullmatch(held[f"l{i}"])
                 if t < len(self.values) and name in self.values[t]:

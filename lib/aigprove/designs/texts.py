@@ -23,6 +23,9 @@ WORD = re.compile(
     rb"`default_nettype[ \t]+\w+|`file_(?:push|pop)[^\n]*|`\w+|\\[^\s]+|[A-Za-z_$][\w$]*")
 TYPED, INITIAL, BIND = (re.compile(rb"(?<![\w$.`])(%s)\b" % word)
                         for word in [b"typedef", b"initial", b"bind"])
+# A comment behind which yosys reads nothing, words of such, and in whose place they stand.
+OFF, TRANSLATE, UNTRANSLATED = b"/* synthesis translate_off */", re.compile(
+    rb"translate_(on|off)"), re.compile(rb"translate-(on|off)")
 # What ends a statement, or a part of it; `always` without an event; and what is bound to a module.
 PART = re.compile(rb"\b(?:begin|end|else)\b|;")
 ALWAYS = re.compile(rb"(?<![\w$.`])(always)\b(?!\s*@)")
@@ -155,6 +158,17 @@ def expanded(data: bytes) -> list[bytes]:
     if any(data.count(mark) != len(texts) for mark in MARKS):
         raise Fault(f"the design has a line {MARKS[-1].decode()}, which yosys prints too")
     return texts
+
+
+def unread(text: bytes) -> bytes:
+    """Returns a text that yosys doesn't read, but whose macros it expands: behind this comment
+    nothing is read, and others such are no longer."""
+    return OFF + TRANSLATE.sub(rb"translate-\1", text)
+
+
+def read_again(text: bytes) -> bytes:
+    """Returns a text that wasn't to be read, once its macros are expanded, as one that is."""
+    return UNTRANSLATED.sub(rb"translate_\1", text.replace(OFF, b"", 1))
 
 
 def bound(texts: Mapping[str, bytes]) -> dict[str, bytes]:

@@ -8,7 +8,6 @@ import functools
 import os
 import re
 from collections.abc import Container, Mapping, Sequence
-from typing import NamedTuple
 
 from aigprove.circuits.aiger import Fault
 from aigprove.circuits.witness import Witness
@@ -16,18 +15,24 @@ from aigprove.designs import netlist, scripts
 from aigprove.designs.front_ends import ASSERT, COVER, LIVE, File, TranslationTimeout
 from aigprove.designs.modules import paths_of
 from aigprove.designs.netlist import Json
+from aigprove.designs.ordering import Assertion, order_of, ordered
 from aigprove.designs.reading import KINDS, WORD, ReadDesign
 from aigprove.designs.replay import Module
 from aigprove.designs.rtlil import Statement, write
 from aigprove.options.options import DesignOptions
 from aigprove.output.messages import escaped, plain
+from aigprove.processes.files import path_of
 from aigprove.processes.scheduler import Task
 
+# What is said of a pass of yosys that breaks, and of signals that depend on each other.
+BROKEN = "was ended by SIGSEGV"
+LOOP = "{} has a combinational loop through {}: let a register be between, or, if that should be " \
+    "no latch, give it a value in each case"
 # How long the text of a small design is.
 SMALL = 1 << 17
 # What finds fewer gates, and how long the text of a design is that is compared in less time without
 # that.
-FEWER, BRIEF = "abc -g AND\nopt_clean", 1 << 20
+FEWER, ABC, BRIEF = "abc -g AND\nopt_clean", "berkeley-abc", 1 << 20
 # The attribute of a net with its path, and the clock of a design that has none.
 HDLNAME, CLOCKED = "\\hdlname", (scripts.SPARE, True)
 # How many signs of an assertion's text are printed.
@@ -47,21 +52,24 @@ def place_of(source: str) -> str:
     return own[-1] if own else ""
 
 
-class Assertion(NamedTuple):
-    """What a bad state property stands for: its name, its place, and whether the design has that
-    name."""
-
-    name: str
-    place: str
-    is_named: bool
-
-
 class Design(ReadDesign):
     """A design whose file is made in a folder, and what is asked about it."""
 
     def __init__(self, files: Sequence[File],
                  options: DesignOptions, folder: str, task: Task) -> None:
         super().__init__(files, options, folder, task)
+        try:
+            self.make()
+        except Fault as why:
+            # Some passes of yosys go around in a loop until their stack is full.
+            loop = netlist.loop_in(self.top_of("drawn.json")[1]) if BROKEN in str(why) else []
+            if not loop:
+                raise type(why)(self.yosys.told(str(why))) from None
+            raise Fault(LOOP.format(self.top, ", ".join(loop))) from None
+
+    def make(self) -> None:
+        """Makes the file."""
+        options = self.options
         self.top, module, given = self.free()
         self.clock, self.constants = netlist.clock_of(self.top, module), netlist.constants(module)
         self.counts = {kind: len(netlist.cells_like(module, kind))
@@ -106,7 +114,7 @@ class Design(ReadDesign):
         self.renames = "\n".join(f"rename {netlist.identifier(module, old)} \\{new}"
                                  for old, new in [*netlist.stored(module), *names.items()])
         equal, size = self.options.is_compared, os.path.getsize(self.yosys.place("free.il"))
-        fewer = "" if equal and size <= BRIEF else FEWER
+        fewer = "" if equal and size <= BRIEF or not path_of(ABC) else FEWER
         mapped = netlist.types(module) - scripts.SIMPLE
         further = scripts.FURTHER * (not mapped <= scripts.MAPPED)
         by_maps = scripts.BY_MAPS.format(further=further) if mapped or reset else ""
@@ -120,8 +128,23 @@ class Design(ReadDesign):
         if not self.is_replayed:
             self.yosys.run(scripts.WRITE, **words)
         cells = self.yosys.modules("asserted.json").get(self.top, {"cells": {}})["cells"]
-        return [Assertion(name, place_of(cell["attributes"].get("src", "")), not cell["hide_name"])
-                for name, cell in cells.items()]
+        return self.in_order([
+            Assertion(name, place_of(cell["attributes"].get("src", "")), not cell["hide_name"])
+            for name, cell in cells.items()])
+
+    def in_order(self, given: Sequence[Assertion]) -> list[Assertion]:
+        """Puts the properties of the file in the order of the design's text, and returns what they
+        stand for."""
+        told = [it._replace(place=self.yosys.told(it.place)) for it in given]
+        # By the number of a property: which one yosys wrote.
+        order = self.order = order_of(told, [plain(os.fsencode(file.path)) for file in self.files])
+        if order != sorted(order):
+            path = self.yosys.place("design.aig")
+            with open(path, "rb") as file:
+                data = file.read()
+            with open(path, "wb") as out:
+                out.write(ordered(data, order, self.options.kind == LIVE))
+        return [given[i] for i in order]
 
     def check_reset(self, top: str, module: Json, clock: str | None = None) -> None:
         """Refuses a reset that is no input of one bit, or is the clock."""
@@ -145,15 +168,17 @@ class Design(ReadDesign):
     def named(self) -> list[tuple[str, str]]:
         """Returns the name and the place of each assertion, in the order of the file's
         properties."""
-        return [(f"{self.top}.{name}" if is_named else "", self.yosys.told(place))
-                for name, place, is_named in self.assertions]
+        return [(f"{self.top}.{it.path}" if it.path else "", self.told(it.place))
+                for it in self.assertions]
 
     def assertion(self, number: int) -> tuple[str, str]:
         """Returns the line of the assertion that a property of the file stands for, and what it is
         in the design's text."""
-        name, place, is_named = self.assertions[number]
-        place, own = self.yosys.told(place), f".{name}" if is_named else ""
-        return f"{KINDS[self.options.kind]} {self.top}{own} ({place})", self.spelled(place)
+        it = self.assertions[number]
+        own, place = f".{it.path}" if it.path else "", self.told(it.place)
+        said = f" ({place})" if place else ""
+        return f"{KINDS[self.options.kind]} {self.top}{own}{said}", \
+            self.spelled(self.yosys.told(it.place))
 
     def spelled(self, place: str) -> str:
         """Returns the lines of the design's files at a place, as one, if they are known: what is
@@ -172,7 +197,8 @@ class Design(ReadDesign):
         """Has yosys run a witness on the design: the names of the assertions that fail in the last
         step, as yosys prints them, and the dump. In the place of x there is 0."""
         self.replayed()
-        lines = [line.replace("x", "0") + "0" for line in [trace.start, *trace.steps]]
+        filled = trace.filled()
+        lines = [line + "0" for line in [filled.start, *filled.steps]]
         # Yosys passes over an empty line, and wants a clock.
         self.yosys.put("witness.aiw", "\n".join(["1", f"b{trace.bad}", *lines, ".", ""]))
         clock, rising = self.clock or CLOCKED

@@ -8,13 +8,15 @@ import contextlib
 import json
 import os
 import re
+import stat
 import subprocess
 import time
-from collections.abc import Callable, Iterator, Mapping, Sequence
+from collections.abc import Callable, Iterable, Iterator, Mapping, Sequence, Set
 from typing import Any
 
-from aigprove.circuits.aiger import Fault
+from aigprove.circuits.aiger import Fault, decoded
 from aigprove.designs.front_ends import File, overdue
+from aigprove.designs.internal import without_internal
 from aigprove.designs.netlist import Json
 from aigprove.designs.rtlil import Statement, parse
 from aigprove.designs.texts import EXPANDED
@@ -40,9 +42,39 @@ HUSHED = {
     "Identifier `.*' is implicitly declared":
     "each such name is looked up, and refused if it is no implicit net of Verilog",
 }
+# Up to how many files of a folder are all linked, and how much of one is looked through for names;
+# what parts these; and names of files that a text computes, as this one does.
+MANY, LARGE = 200, 1 << 20
+SEPARATORS = re.compile(rb"[\s\"'`(),;/<>]+")
+COMPUTED = re.compile(rb"`include\s+[^\"<\s]|\$readmem[bh]\s*\(\s*[^\"\s]")
+COMPUTED_NAME = b"`include `name"
+FULL = "{} is full, where yosys writes: make room there, or let TMPDIR be another folder"
 # How many commands a line of a script has at most: yosys copies the rest of a line behind each
 # word.
 LONGEST = 1000
+
+
+def named_in(path: str, entries: Set[str], texts: Iterable[bytes]) -> Set[str]:
+    """Returns the entries of a folder that texts name, and texts there that these name; all of
+    them if a name is computed."""
+    left, found = list(texts), set[str]()
+    while left:
+        text = left.pop()
+        if COMPUTED.search(text):
+            return entries
+        new = entries & {decoded(name) for name in SEPARATORS.split(text)} - found
+        found |= new
+        for path_of_new in (os.path.join(path, name) for name in new):
+            with contextlib.suppress(OSError):
+                if stat.S_ISREG(os.stat(path_of_new).st_mode):
+                    with open(path_of_new, "rb") as file:
+                        left.append(file.read(LARGE))
+    return found
+
+
+def full(folder: str) -> Fault:
+    """Returns the fault that nothing more can be written where this folder is."""
+    return Fault(FULL.format(os.path.dirname(os.path.dirname(folder))))
 
 
 class Yosys:
@@ -54,8 +86,9 @@ class Yosys:
             raise Fault("yosys is not installed, which makes a file of a design")
         self.path, self.folder, self.task, self.deadline = files[0].path, folder, task, deadline
         self.beside = list(dict.fromkeys(os.path.dirname(file.path) or "." for file in files))
-        for i, path in enumerate(self.beside):
-            self.link(path, self.place(f"{i}/source"))
+        texts = [file.data for file in files]
+        self.are_all_linked = all([self.link(path, self.place(f"{i}/source"), texts)
+                                   for i, path in enumerate(self.beside)])
         # The path of each file, and where its copy is in the folder.
         self.copies = {file.path: self.copied(i, file) for i, file in enumerate(files)}
         # The folders' descriptors in the last run that read the design.
@@ -65,20 +98,32 @@ class Yosys:
         self.meanings: dict[str, str] = {}
         self.warnings: list[str] = []
 
-    def link(self, path: str, folder: str) -> None:
-        """Makes a folder of links to what a folder has."""
-        os.makedirs(folder)
+    def link(self, path: str, folder: str, texts: Iterable[bytes]) -> bool:
+        """Makes a folder of links to what a folder has, or to what these texts name, if it has
+        much. Returns whether that is all."""
+        os.makedirs(folder, exist_ok=True)
         entries = []
         with contextlib.suppress(OSError):
             entries = os.listdir(path)
-        for entry in entries:
-            os.symlink(os.path.join(os.path.abspath(path), entry), os.path.join(folder, entry))
+        named = set(entries) if len(entries) <= MANY else named_in(path, set(entries), texts)
+        for entry in named:
+            with contextlib.suppress(FileExistsError):
+                os.symlink(os.path.join(os.path.abspath(path), entry), os.path.join(folder, entry))
+        return len(named) == len(entries)
+
+    def link_all(self) -> bool:
+        """Makes links to all that stands beside the files, and returns whether some weren't
+        there."""
+        is_missing, self.are_all_linked = not self.are_all_linked, True
+        for i, path in enumerate(self.beside) if is_missing else []:
+            self.link(path, self.place(f"{i}/source"), [COMPUTED_NAME])
+        return is_missing
 
     def copied(self, i: int, file: File) -> str:
         """Returns the place of a copy of a file, by a name that nothing beside it has."""
-        folder = f"{self.beside.index(os.path.dirname(file.path) or '.')}/source"
-        name = f"design{i or ''}.v"
-        while os.path.lexists(self.place(f"{folder}/{name}")):
+        beside = os.path.dirname(file.path) or "."
+        folder, name = f"{self.beside.index(beside)}/source", f"design{i or ''}.v"
+        while any(os.path.lexists(os.path.join(it, name)) for it in [self.place(folder), beside]):
             name = f"_{name}"
         with open(self.place(f"{folder}/{name}"), "xb") as out:
             out.write(file.data)
@@ -115,7 +160,9 @@ class Yosys:
         return modules
 
     def told(self, said: str) -> str:
-        """Returns what yosys says, with the user's paths for its names."""
+        """Returns what yosys says, with the user's paths for its names, and without names that it
+        makes itself."""
+        said = without_internal(said)
         for name in sorted(self.meanings, key=len, reverse=True):
             said = said.replace(name,
                                 plain(os.fsencode(self.meanings[name])).replace("\n", "\\x0a"))
@@ -233,6 +280,9 @@ class Run:
         """Returns what it prints, once it ends, which has to be with status 0."""
         status, _ = self.wait()
         said = self.said()
+        # Yosys doesn't say that it couldn't write.
+        if not os.statvfs(self.yosys.folder).f_bavail:
+            raise full(self.yosys.folder)
         if status != 0:
             why = [line for line in said.splitlines() if "ERROR: " in line]
             raise Fault(self.yosys.told(why[0]) if why else f"yosys {ending(status)}")

@@ -2,8 +2,7 @@
 on several of its properties at once, and on files that count rounds of a justice property."""
 from __future__ import annotations
 
-import functools
-from collections.abc import Iterable, Mapping, Sequence
+from collections.abc import Iterable, Sequence
 from typing import TYPE_CHECKING, cast
 
 from aigprove.circuits.aiger import Circuit, Fault, cone
@@ -11,14 +10,12 @@ from aigprove.circuits.normalised import NormalisedModel, parted
 from aigprove.circuits.simulation import reached
 from aigprove.circuits.witness import Witness
 from aigprove.engines.certificate import Certificate
-from aigprove.engines.job import CountedRounds, Job, Missing, Problem
+from aigprove.engines.job import Answer, Job, Missing, Problem, Safe
 from aigprove.options.options import Options
 from aigprove.output.messages import ending
 from aigprove.processes.files import Folder, Sealed, path_of
 from aigprove.processes.groups import Words
 from aigprove.processes.scheduler import Task
-from aigprove.questions.checker import Checker, Claim
-from aigprove.questions.target import Target
 
 if TYPE_CHECKING:
     from aigprove.questions.justice import Justice
@@ -35,7 +32,7 @@ COUNTS = [1, 2, 4, 8, 16]
 
 
 def path_of_abc(given: str | None) -> str:
-    """Returns the path of ABC: the one that is given, or that is found."""
+    """Returns the path of ABC that is given, or else the one that is found."""
     for name in [given] if given else ABCS:
         if program := path_of(name):
             return program
@@ -43,7 +40,7 @@ def path_of_abc(given: str | None) -> str:
 
 
 def run_abc(program: str, task: Task, folder: Folder, script: Iterable[str]) -> None:
-    """Runs commands of ABC in a folder; it has to end with status 0."""
+    """Runs commands of ABC in a folder. ABC has to end with status 0."""
     words: Words = [program, "-q", "; ".join(script)]
     if status := folder.run(task, words):
         raise Fault(f"ABC {ending(status)}")
@@ -99,16 +96,16 @@ class Pdr(Abc):
 
 
 class MultiProperty:
-    """ABC, which is asked about several properties of a circuit."""
+    """Asks ABC about several properties of a circuit."""
 
     def __init__(self, options: Options, task: Task, above: str) -> None:
         self.program, self.task, self.above = path_of_abc(options.abc), task, above
 
     def ask(self, circuit: Circuit, command: str) -> tuple[Runs, Sealed | None]:
-        """Returns what a command finds.
+        """Returns the runs and the certificate that a command finds.
 
-        That is runs to properties that are reached, by their places, and the certificate for the
-        others, if there is one."""
+        The runs reach properties, by their places, and the certificate, if there is one, is for
+        the others."""
         model = NormalisedModel(circuit, is_apart=True)
         found, invariant = ask_abc(self.program, self.task, self.above, model, command)
         made = model.certificate(invariant) if invariant else None
@@ -117,9 +114,9 @@ class MultiProperty:
 
 
 class Cones:
-    """Circuits with some of a circuit's bad state properties alone.
+    """Circuits that have only some of a circuit's bad state properties.
 
-    Gates and next states that these don't read are left out."""
+    They leave out gates and next states that these don't read."""
 
     def __init__(self, circuit: Circuit) -> None:
         self.circuit = circuit
@@ -137,46 +134,18 @@ class Cones:
         return circuit.with_lists(bads=bads, nexts=nexts, gates=gates)
 
 
-class CountedFile(Target):
-    """The file in which so many rounds end, and what aigcheck shows by it of the given file."""
-
-    can_be_simulated = False
-
-    def __init__(self, justice: Justice, checker: Checker, count: int) -> None:
-        self.justice, self.checker, self.count = justice, checker, count
-        self.path, self.name = justice.path, f"rounds-{count}.aag"
-
-    def make(self) -> Sealed:
-        return self.justice.rounds(self.checker, self.count)
-
-    def circuit(self) -> Circuit:
-        return self.checker.circuit(self.asked, "FILE")
-
-    def unreached(self, command: str, words: Sequence[str], files: Mapping[str, Sealed]) -> Claim:
-        return self.justice.unreached(command, words, files, ["--rounds", str(self.count)])
-
-
-class CountingProblem(Problem):
-    """The circuit of such a file, which is simulated alone."""
-
-    @functools.cached_property
-    def circuit(self) -> Circuit:
-        return self.source.circuit()
-
-    def reached(self, checker: Checker, start: str, steps: Sequence[str]) -> Witness | None:
-        return reached(self.circuit, start, steps)
-
-
 class Counting(Job):
-    """A job of pdr's about such a file.
+    """A job of pdr about such a file.
 
-    A run says that so many rounds can end, and nothing of the property."""
+    A run shows that this number of rounds can end, which says nothing about the property."""
 
     def __init__(self, job: Job, count: int) -> None:
-        source = CountedFile(cast("Justice", job.source), job.checker, count)
-        problem = CountingProblem(job.options, source, job.checker, job.above)
-        super().__init__(problem, job.task, job.board)
+        source = cast("Justice", job.source).counting(count)
+        super().__init__(Problem(job.options, source, job.checker, job.above), job.task, job.board)
         self.count, self.is_reached, self.bound = count, False, None
+
+    def reached(self, start: str, steps: Sequence[str]) -> Witness | None:
+        return reached(self.problem.circuit, start, steps)
 
     def progress(self, what: str, count: int | None = None) -> None:
         super().progress("rounds", self.count)
@@ -184,8 +153,9 @@ class Counting(Job):
     def hand_in_run(self, data: bytes) -> None:
         self.is_reached = True
 
-    def certificate(self, claim: Claim, machine: Sealed) -> None:
-        self.board.hand_in(self.task, CountedRounds(claim))
+    def hand_in(self, answer: Answer) -> None:
+        assert isinstance(answer, Safe)
+        super().hand_in(answer._replace(certificate="the answer is about rounds"))
 
 
 class Rounds:

@@ -5,12 +5,12 @@ from collections.abc import Callable, Iterator, Mapping
 from aigprove.circuits import simulation
 from aigprove.circuits.aiger import Circuit, Fault
 from aigprove.circuits.normalised import PLA, of_abc
-from aigprove.engines.job import Job
+from aigprove.engines.job import Job, Safe
 from aigprove.output.signals import Signals
 from aigprove.processes.files import Sealed
 from aigprove.processes.groups import BackgroundCall
 from aigprove.questions import conditions
-from aigprove.questions.checker import Query
+from aigprove.questions.checker import Query, Subject
 from aigprove.questions.solver import Solver, true_of
 
 # How many words of a state are printed.
@@ -28,7 +28,8 @@ class Certificate:
         self.certificate, self.form = certificate, form
 
     def run(self) -> None:
-        """Has the certificate checked, by proofs about the file and it, and hands it in."""
+        """Has the certificate checked, by proofs about the file and the certificate, and reports
+        it."""
         text = self.certificate.data().decode("utf-8", "surrogateescape")
         if PLA.search(text):
             self.certificate = self.of_invariant(text)
@@ -37,7 +38,7 @@ class Certificate:
             proofs = self.joined(joint) if joint else self.simulated()
             claim = self.source.certified(self.certificate, proofs, *self.form)
             self.checker.check(claim)
-        self.job.certificate(claim, self.certificate)
+        self.job.hand_in(Safe([claim], self.certificate))
 
     def joint(self) -> Sealed | None:
         """Returns the file beside the certificate.
@@ -47,13 +48,13 @@ class Certificate:
         if self.source.can_be_simulated and conditions.is_named(self.certificate):
             return None
         is_needed = not self.source.can_be_simulated
-        return self.checker.joint(self.source.asked, self.certificate, is_needed)
+        return self.checker.joint(self.job.problem.machine, self.certificate, is_needed)
 
-    def asked(self, questions: Mapping[str, Query], file: Sealed) -> tuple[Proofs, Proofs]:
+    def asked(self, questions: Mapping[str, Query], subject: Subject) -> tuple[Proofs, Proofs]:
         """Returns proofs for questions by their names, and the solutions of those that have some.
 
-        They are asked side by side."""
-        asked = {name: BackgroundCall(self.solver.ask, question, file)
+        The solver is asked all questions side by side."""
+        asked = {name: BackgroundCall(self.solver.ask, question, subject)
                  for name, question in questions.items()}
         for call in asked.values():
             call.join()
@@ -64,7 +65,7 @@ class Certificate:
 
     def joined(self, joint: Sealed) -> Proofs:
         """Returns proofs about the file beside the certificate."""
-        proofs, solutions = self.asked(conditions.questions(*self.form), joint)
+        proofs, solutions = self.asked(conditions.questions(*self.form), Subject(joint))
         for name, solution in solutions.items():
             circuit = self.checker.circuit(joint, "the joint file")
             raise Fault("; ".join([broken(circuit, name, solution), *self.unmet()]))
@@ -73,17 +74,17 @@ class Certificate:
     def unmet(self) -> list[str]:
         """Returns the line of conditions that a certificate that was given doesn't meet.
 
-        Only of what was given is it printed what else it might have been."""
+        Only for a certificate from the command line, aigprove prints what else it might be."""
         is_given = self.certificate is self.job.options.certificate
         if not (self.source.can_be_simulated and is_given):
             return []
         questions = conditions.of_both(self.certificate)
-        return conditions.line_of_unmet(self.asked(questions, self.source.asked)[1])
+        return conditions.line_of_unmet(self.asked(questions, self.source.subject)[1])
 
     def simulated(self) -> Proofs:
         """Returns proofs of the conditions by which the certificate simulates the file."""
         questions = conditions.of_both(self.certificate)
-        proofs, solutions = self.asked(questions, self.source.asked)
+        proofs, solutions = self.asked(questions, self.source.subject)
         if solutions:
             raise Fault(
                 "; ".join([*self.breaking(solutions), *conditions.line_of_unmet(solutions)]))
@@ -97,9 +98,9 @@ class Certificate:
             text = self.checker.text(Sealed(given.text()))
             circuit = self.checker.circuit(text, "the certificate")
             # Names have the literals of the file as it is given.
-            file = self.checker.circuit(self.source.asked, "FILE")
+            file = self.checker.circuit(self.job.problem.machine, "FILE")
             conditions.name_shared(circuit, file, self.source.circuit())
-            _, solution = self.solver.ask(conditions.questions()[name], text)
+            _, solution = self.solver.ask(conditions.questions()[name], Subject(text))
             yield broken(circuit, name, solution)
 
     def of_invariant(self, text: str) -> Sealed:
@@ -126,7 +127,7 @@ class GivenRun:
         self.job = job
 
     def run(self) -> None:
-        """Has it checked, and hands it in."""
+        """Has it checked, and reports it."""
         assert self.job.options.run
         data = self.job.options.run.data()
         if data.startswith((b"1\nb", b"c")):

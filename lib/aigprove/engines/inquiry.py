@@ -17,6 +17,10 @@ if TYPE_CHECKING:
     from aigprove.output.evidence import Evidence
     from aigprove.questions.assumptions import Assumptions, Endless
 
+# Why there is no certificate, by what an answer comes to.
+NO_CERTIFICATE = {UNSAFE: "the answer is a run", **dict.fromkeys([OPEN, FAILED],
+                                                                 "there is no answer")}
+
 
 class Inquiry:
     """A question, the engines that are asked, and what is printed and kept."""
@@ -50,8 +54,7 @@ class Inquiry:
             with unlimited():
                 return self.end_open()
         if status != SAFE:
-            self.printer.tell_no_certificate(
-                "the answer is a run" if status == UNSAFE else "there is no answer")
+            self.printer.certify(NO_CERTIFICATE[status])
         if status == SAFE and self.source.assumed(self.header):
             from aigprove.questions.assumptions import Assumptions
 
@@ -66,9 +69,9 @@ class Inquiry:
         return OPEN
 
     def end_open(self) -> int:
-        """Prints what was shown where there is no answer, and returns the exit status."""
+        """Prints what was shown if there is no answer, and returns the exit status."""
         self.printer.print_open()
-        self.printer.tell_no_certificate("there is no answer")
+        self.printer.certify(NO_CERTIFICATE[OPEN])
         if self.options.aiger:
             self.printer.print_report(OPEN)
         self.printer.status = OPEN
@@ -101,5 +104,6 @@ class Inquiry:
             self.scope.stop()
         if self.evidence:
             found.keep(self.evidence)
+            self.evidence.note_vacuous(found.line() if found.is_empty() else None)
         self.printer.print_line(found.line(), found.is_empty())
         return OPEN if found.is_empty() else SAFE

@@ -21,7 +21,7 @@ from aigprove.engines.rows import ROWS
 from aigprove.options.options import Options
 from aigprove.processes.files import Sealed
 from aigprove.processes.scheduler import Task
-from aigprove.questions.checker import Checker, Claim, Question, header_of
+from aigprove.questions.checker import Checker, Claim, header_of
 from aigprove.questions.solver import Solver
 from aigprove.questions.target import Target
 
@@ -50,32 +50,20 @@ class Sink(Protocol):
 
 
 class StepShown(NamedTuple):
-    """Step k is shown, and with it all before; the prefix stands before the line of the claim."""
+    """Step k is shown, and with it all before."""
 
     k: int
     claim: Claim
-    prefix: str
 
 
-class Induction(NamedTuple):
-    """A question of a window has no solution, and with the steps before it no step is bad."""
+class Safe(NamedTuple):
+    """No step is bad, as the last claim says; those before lead to it.
 
-    question: Question
-    window: Claim
-    claim: Claim
+    A certificate is made of an inductive machine, or of a window of k + 2 steps, by its k; or it is
+    given why there is none."""
 
-
-class Certified(NamedTuple):
-    """An inductive machine shows that no step is bad."""
-
-    claim: Claim
-    machine: Sealed
-
-
-class CountedRounds(NamedTuple):
-    """A file that counts rounds shows that no run is fair."""
-
-    claim: Claim
+    claims: Sequence[Claim]
+    certificate: Sealed | int | str
 
 
 class RunFound(NamedTuple):
@@ -90,14 +78,14 @@ class Ended(NamedTuple):
     error: Exception | None
 
 
-Answer = StepShown | Induction | Certified | CountedRounds | RunFound
+Answer = StepShown | Safe | RunFound
 # What makes an engine of a job.
 Make = Callable[["Job"], Engine]
 
 
 class Board:
-    """The answers that were handed in, what is known so far, when the question was begun, and when
-    it is given up."""
+    """What is known about a question: the answers that were reported, the steps that were checked,
+    when it was begun, and when it is given up."""
 
     def __init__(self, deadline: float, steps: int = 0) -> None:
         self.begun, self.deadline = time.monotonic(), deadline
@@ -147,10 +135,15 @@ class Problem:
         self.options, self.source, self.checker, self.above = options, source, checker, above
 
     @functools.cached_property
+    def machine(self) -> Sealed:
+        """The file that engines are given, whose bad states are those that are asked about."""
+        return self.checker.machine(self.source.subject)
+
+    @functools.cached_property
     def text(self) -> Sealed:
-        """The text form of the file, which has to have a bad state property."""
+        """The text form of that file, which has to have a bad state property."""
         try:
-            text = self.checker.text(self.source.asked)
+            text = self.checker.text(self.machine)
         except Fault as why:
             said = re.sub("^aig(tool|edit): ", "", str(why))
             raise Fault(f"{self.source.path}: {said}") from None
@@ -173,9 +166,9 @@ class Problem:
         """The circuit as model checkers read it."""
         return NormalisedModel(self.circuit)
 
-    def claimed(self, trace: Witness) -> Claim:
-        """Returns what aigcheck says of a run."""
-        return self.source.run(trace, Sealed(trace.text().encode()))
+    def holds(self, checker: Checker, trace: Witness) -> bool:
+        """Returns whether a run of that file shows what is asked about, as aigcheck says."""
+        return self.source.holds(checker, self.source.of_file(trace))
 
     def reached(self, checker: Checker, start: str, steps: Sequence[str]) -> Witness | None:
         """Returns the witness of a run whose last step is bad, as aigcheck finds.
@@ -184,7 +177,7 @@ class Problem:
         None if there is none."""
         for bad in range(len(self.circuit.bads) if steps else 0):
             trace = Witness(bad, start, steps)
-            if checker.holds(self.claimed(trace)):
+            if self.holds(checker, trace):
                 return trace
         is_short = len(steps) * len(self.circuit.gates) < SIMULATED
         return reached(self.circuit, start, steps) if is_short else None
@@ -218,21 +211,15 @@ class Job:
         """Notes what the engine does."""
         self.board.doing[what] = what if count is None else f"{what} {count}"
 
-    def step(self, k: int, claim: Claim, prefix: str | None = None) -> None:
+    def step(self, k: int, claim: Claim) -> None:
         """Hands in that step k was checked, and all before it."""
         if k >= self.board.steps:
             self.task.got_further()
-        own = self.source.of_step if prefix is None else prefix
-        self.board.hand_in(self.task, StepShown(k, claim, own))
+        self.hand_in(StepShown(k, claim))
 
-    def induction(self, question: Question, window: Claim, claim: Claim) -> None:
-        """Hands in that a window has no solution, and that with the steps before it none is bad."""
-        self.board.windowed = question.k + 1
-        self.board.hand_in(self.task, Induction(question, window, claim))
-
-    def certificate(self, claim: Claim, machine: Sealed) -> None:
-        """Hands in the claim that an inductive machine makes."""
-        self.board.hand_in(self.task, Certified(claim, machine))
+    def hand_in(self, answer: Answer) -> None:
+        """Hands in an answer that was checked."""
+        self.board.hand_in(self.task, answer)
 
     def answering(self) -> contextlib.AbstractContextManager[None]:
         """Has the engine's answer checked before others go on."""
@@ -242,8 +229,7 @@ class Job:
         """Has aigcheck check a run to a bad state, and hands it in."""
         trace = read_for(data, self.problem.header)
         with self.answering():
-            self.checker.check(self.problem.claimed(trace))
+            self.source.run(self.checker, self.source.of_file(trace))
             others = self.source.others(self.problem.circuit, trace)
-            shown = [it for it in others if self.checker.holds(self.problem.claimed(it))]
-        traces = self.source.mattering([trace, *shown])
-        self.board.hand_in(self.task, RunFound(traces))
+            shown = [it for it in others if self.problem.holds(self.checker, it)]
+        self.hand_in(RunFound(self.source.mattering([trace, *shown])))

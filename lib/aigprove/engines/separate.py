@@ -10,17 +10,15 @@ from collections.abc import Iterable, Sequence
 
 from aigprove.circuits.aiger import Circuit
 from aigprove.circuits.witness import Witness
-from aigprove.engines.job import (SAFE, UNSAFE, Answer, Board, Induction, Problem, RunFound,
-                                  StepShown)
+from aigprove.engines.job import SAFE, UNSAFE, Answer, Board, Problem, RunFound, StepShown
 from aigprove.engines.portfolio import Portfolio, engines_of
 from aigprove.options.options import Options
 from aigprove.output.evidence import ABOVE, Evidence, EvidenceFolder
 from aigprove.output.messages import is_fault, reason, report, say, show_progress
 from aigprove.output.report import PropertyAnswer
 from aigprove.processes.scheduler import Scheduler, Scope, for_each
-from aigprove.questions.bad_states import BadStates, Property
 from aigprove.questions.checker import Checker, Claim
-from aigprove.questions.justice import Justice, Justices
+from aigprove.questions.properties import Properties
 from aigprove.questions.target import Target
 
 # Seconds of the first time that each is asked about, and by how much that grows.
@@ -65,12 +63,13 @@ class PropertyPortfolio:
             return None
         trace: Witness | None = None
         if isinstance(answer, RunFound):
-            trace = answer.traces[0]
-            self.keep(self.problem.claimed(trace))
+            source = self.problem.source
+            trace = source.of_file(answer.traces[0])
+            if self.owner.folder:
+                self.keep(source.run(self.problem.checker, trace))
         else:
-            if isinstance(answer, Induction):
-                self.keep(answer.window)
-            self.keep(answer.claim)
+            for claim in answer.claims:
+                self.keep(claim)
         seconds = self.owner.decide(self.answers, engine, trace)
         if self.evidence:
             self.evidence.note(engine, seconds)
@@ -120,7 +119,7 @@ class SeparateProperties:
     What is kept goes into the folder, if there is one."""
 
     def __init__(self, options: Options, checker: Checker, above: str,
-                 source: BadStates | Justices, folder: EvidenceFolder | None) -> None:
+                 source: Properties, folder: EvidenceFolder | None) -> None:
         self.options, self.checker, self.above = options, checker, above
         self.source, self.folder = source, folder
         self.scheduler: Scheduler = checker.task.scheduler
@@ -131,14 +130,7 @@ class SeparateProperties:
         self.said: set[tuple[str, str]] = set()
         self.asked: dict[int, PropertyPortfolio] = {}
         self.over: set[int] = set()
-        self.sources: Sequence[Property | Justice] = [
-            self.one(answer.number) for answer in self.answers]
-
-    def one(self, number: int) -> Property | Justice:
-        """Returns a property by its number."""
-        if isinstance(self.source, Justices):
-            return Justice(self.source, number, ABOVE)
-        return Property(self.source, number, ABOVE)
+        self.sources = [source.one(answer.number, ABOVE) for answer in self.answers]
 
     def open(self) -> list[int]:
         """Returns the numbers of the properties that have no answer."""
@@ -165,7 +157,7 @@ class SeparateProperties:
         with self.lock:
             seconds = time.monotonic() - self.begun
             for answer in answers:
-                if trace is None or len(answers) == 1 or trace.bad == answer.number:
+                if trace is None or trace.bad == answer.number:
                     answer.take(trace, engine, seconds)
                 if answer.is_answered and answer.number in self.asked:
                     self.asked[answer.number].end_all()
@@ -177,7 +169,7 @@ class SeparateProperties:
         return PropertyPortfolio(self, self.sources[number], answers, self.circuit(number), engines)
 
     def circuit(self, number: int) -> Circuit | None:
-        """Returns the circuit with one property, if it is known."""
+        """Returns the circuit that has only one property, if that circuit is known."""
         return None
 
     def ask_alone(self, number: int, seconds: float) -> None:

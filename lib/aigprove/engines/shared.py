@@ -20,8 +20,8 @@ from aigprove.options.options import Options
 from aigprove.output.evidence import ABOVE, EvidenceFolder
 from aigprove.processes.files import Sealed
 from aigprove.processes.scheduler import Scope, Stopped, for_each
-from aigprove.questions.bad_states import BadStates, FileAbove
 from aigprove.questions.checker import Checker
+from aigprove.questions.properties import Properties
 
 # Seconds of the first run of pdr for each property, of the time that all are asked about at once,
 # and of the search for shorter runs.
@@ -33,7 +33,7 @@ OF_ABC = {"pdr", "bmc3"}
 class SharedProperties(SeparateProperties):
     """Properties of one circuit, which are asked about at once, before each is alone."""
 
-    def __init__(self, options: Options, checker: Checker, above: str, source: BadStates,
+    def __init__(self, options: Options, checker: Checker, above: str, source: Properties,
                  folder: EvidenceFolder | None) -> None:
         super().__init__(options, checker, above, source, folder)
         self.whole = self.of_all([name for name in options.engines if name not in OF_ABC])
@@ -52,8 +52,7 @@ class SharedProperties(SeparateProperties):
 
     def of_all(self, engines: Iterable[str] = ()) -> PropertyPortfolio:
         """Returns a portfolio about all properties."""
-        assert isinstance(self.source, BadStates)
-        source = FileAbove(self.source, ABOVE)
+        source = self.source.placed(ABOVE)
         return PropertyPortfolio(self, source, self.answers, None, engines)
 
     def abc(self) -> MultiProperty:
@@ -116,7 +115,7 @@ class SharedProperties(SeparateProperties):
                 for_each(found, self.options.jobs, self.take_run)
 
     def settle(self) -> None:
-        """Has shorter runs checked if engines that were asked about one left longer ones."""
+        """Has shorter runs checked for properties whose engines only found longer ones."""
         try:
             self.shorten(self.abc())
         except Missing:
@@ -133,7 +132,7 @@ class SharedProperties(SeparateProperties):
         number, (start, steps), name = item
         portfolio = self.portfolio(number)
         trace, checker = Witness(0, start, steps), self.checker.of(self.pdr)
-        if not steps or not checker.holds(portfolio.problem.claimed(trace)):
+        if not steps or not portfolio.problem.holds(checker, trace):
             raise Fault("its counterexample reaches no bad state")
         portfolio.take(name, RunFound([trace]))
         portfolio.close()

@@ -5,10 +5,10 @@ import time
 from collections.abc import Iterator
 
 from aigprove.circuits.witness import read_for
-from aigprove.engines.job import Job
+from aigprove.engines.job import Job, Safe
 from aigprove.processes.files import Sealed
 from aigprove.processes.groups import BackgroundCall
-from aigprove.questions.checker import PAIRS, Claim, Question
+from aigprove.questions.checker import PAIRS, Claim, Question, Subject
 
 # How many proofs are checked at once, beside the next question.
 CHECKS = 2
@@ -32,11 +32,11 @@ class Asking:
 
     def ask(self, question: Question) -> tuple[bool, Sealed]:
         """Returns whether a question has a solution, and its evidence."""
-        return self.solver.ask(question, self.source.asked)
+        return self.solver.ask(question, self.source.subject)
 
     def witness(self, question: Question, solution: Sealed) -> bytes:
         """Returns the witness that a solution is."""
-        return self.checker.witness(self.source.asked, question, solution)
+        return self.checker.witness(Subject(self.job.problem.machine), question, solution)
 
 
 class Steps(Asking):
@@ -74,7 +74,7 @@ class Steps(Asking):
     def propagates(self, k: int, ahead: int) -> bool:
         """Returns whether unit propagation finds that no bad state is reached at step k.
 
-        Meanwhile so many steps further on are tried."""
+        Meanwhile, a number of further steps are tried."""
         for step in range(k, k + ahead + 1):
             if step not in self.tried:
                 claim = self.propagation(step)
@@ -87,7 +87,7 @@ class Steps(Asking):
         return True
 
     def reaches(self, question: Question) -> bool:
-        """Returns whether a bad state is reached at a step, which is handed in then.
+        """Returns whether a bad state is reached at a step. If it is, the run is reported.
 
         Otherwise the check of the solver's proof begins."""
         has_solution, given = self.ask(question)
@@ -102,7 +102,7 @@ class Steps(Asking):
         return True
 
     def finish(self, left: int = 0) -> None:
-        """Waits for all checks but so many, and hands in what they show."""
+        """Waits for all checks except a number of the last, and reports what they show."""
         while len(self.checking) > left:
             k, claim, check = self.checking.popleft()
             check.result()
@@ -113,8 +113,8 @@ class Bounded(Asking):
     """Asks one question about all steps up to K, for K = 1, 4, 16 and so on, and the bound.
 
     K is only twice the last after one that took long. A run that is found need not be the
-    shortest. So it is asked for the least step: whether that is the one found, if steps were asked
-    about in turn, and otherwise by halves."""
+    shortest. So the solver is asked for the least step: whether it is the one found, if steps
+    were asked about in turn, and otherwise by bisection."""
 
     def run(self) -> None:
         """Asks about more and more steps."""
@@ -141,7 +141,7 @@ class Bounded(Asking):
     def reaches(self, k: int) -> bytes | None:
         """Returns the witness of a run to a bad state up to step k, if there is one.
 
-        Otherwise that there is none is checked, and handed in."""
+        Otherwise the proof that there is none is checked and reported."""
         self.job.progress("steps up to", k)
         question = Question("bounded", k)
         has_solution, given = self.ask(question)
@@ -150,13 +150,13 @@ class Bounded(Asking):
         claim = self.source.unsolvable(question, given)
         self.checker.check(claim)
         self.board.bounded[k] = given
-        self.job.step(k, claim, self.source.prefix)
+        self.job.step(k, claim)
         return None
 
     def least(self, shown: int, run: bytes) -> bytes:
         """Returns the witness of a run to the first step with a bad state.
 
-        That step is past a step that was shown, and not past this run's last."""
+        That step is after a step that was checked, and not after this run's last."""
         while (last := self.last(run)) > shown + 1:
             middle = last - 1 if self.solver.takes_turns else (shown + last) // 2
             found = self.reaches(middle)
@@ -188,7 +188,7 @@ class Windows(Asking):
                     return
 
     def finish(self, window: Question, claim: Claim, step: Sealed) -> None:
-        """Shows the steps before a window, and what follows.
+        """Checks the steps before a window, and reports what follows.
 
         If a run reaches a bad state in them, that is handed in."""
         question = Question("bounded", window.k)
@@ -200,10 +200,12 @@ class Windows(Asking):
                 return
         shown = self.source.proved(question, base, window, step)
         self.checker.check(shown)
-        self.job.induction(window, claim, shown)
+        self.board.windowed = window.k + 1
+        no_certificate = "the answer is about runs on which no state comes twice"
+        self.job.hand_in(Safe([claim, shown], no_certificate if window.form else window.k))
 
     def forms(self, k: int) -> list[tuple[str, ...]]:
-        """Returns the forms of clauses of windows that are asked about."""
+        """Returns the options of the windows that are asked about."""
         latches = self.job.problem.header.latches
         is_small = latches and latches * (k + 2) * (k + 2) <= PAIRS
         return [(), ("distinct",)] if is_small else [()]

@@ -10,10 +10,10 @@ from aigprove.engines.certificate import Certificate
 from aigprove.engines.job import Job, Missing
 from aigprove.equality.incremental import in_turn
 from aigprove.equality.pair import Pair
+from aigprove.equality.program import words_of
 from aigprove.output.messages import ending, say
 from aigprove.processes.files import Folder, Sealed
-from aigprove.processes.groups import PythonModule
-from aigprove.questions.checker import Query
+from aigprove.questions.checker import Query, Subject
 from aigprove.questions.solver import Solver
 
 
@@ -22,11 +22,11 @@ class MergingSolver(Solver):
 
     cadical is asked about the literals of the last clause in turn."""
 
-    def ask(self, question: Query, file: Sealed) -> tuple[bool, Sealed]:
+    def ask(self, question: Query, subject: Subject) -> tuple[bool, Sealed]:
         with Folder(self.above) as folder:
             with folder.make("clauses.cnf") as out:
-                self.checker.print_question(question, file, out)
-            words = PythonModule("merging", [folder.path, *in_turn(self.words)])
+                self.checker.print_question(question, subject, out)
+            words = words_of("merging", folder.path, *in_turn(self.words))
             has_solution = self.ended(folder, words) == 10
             return has_solution, folder.taken("out", "answer" if has_solution else "proof")
 
@@ -67,7 +67,7 @@ class CorrespondingRegisters:
         with Folder(self.job.above) as folder:
             with folder.make("file.aag") as out:
                 out.write(self.job.problem.text.data())
-            words = PythonModule(self.guesses, [folder.path, json.dumps(asked)])
+            words = words_of(self.guesses, folder.path, json.dumps(asked))
             group = folder.start(task, words)
             self.job.board.has_begun.set()
             if status := task.finish(group):

@@ -64,75 +64,52 @@ def paired(classes: Classes, other: Mapping[int, int]) -> Classes:
 
 
 class States:
-    """Classes of latches that a step keeps, and of nodes that are equal wherever these are."""
+    """Classes of latches that a step keeps."""
 
     def __init__(self, classes: Classes, solver: IncrementalQueries) -> None:
-        self.classes, self.nodes, self.solver, self.is_hard = classes, classes.nodes, solver, False
+        self.classes, self.nodes, self.solver = classes, classes.nodes, solver
 
     def pairs(self) -> list[Pair]:
-        """Returns all pairs of latches, and if it is hard those of nodes, by which a step was seen
-        to keep them and nothing bad to be there."""
+        """Returns all pairs of latches, by which a step was seen to keep them and nothing bad to be
+        there."""
         found = None
         while found is None:
             self.classes.settle()
-            try:
-                found = self.kept()
-            except Undecided:
-                if self.is_hard:
-                    raise
-                self.is_hard = True
+            found = self.kept()
         return found
 
     def kept(self) -> list[Pair] | None:
         """Returns these pairs; None if classes were split."""
-        classes, size, states, proved = self.classes, self.classes.size(), self.classes.pairs(), 0
-        nodes, known = self.nodes.merged(classes.merged(self.nodes.leaves(), 1))
-        inner, limits = self.inner(nodes), [] if self.is_hard else limits_for(len(nodes.gates.rows))
-        nexts = [(nodes.next(left), nodes.next(right))
+        classes, size, states = self.classes, self.classes.size(), self.classes.pairs()
+        nodes, _ = self.nodes.merged(classes.merged(self.nodes.leaves(), 1))
+        facts = [(literal, 1) for literal in nodes.constraints]
+        asked = [(nodes.next(left), nodes.next(right))
                  for left, right in states] + [(bad, 0) for bad in nodes.bads]
         while classes.size() == size:
-            pairs, facts = inner.pairs(), [(literal, 1) for literal in nodes.constraints]
-            found = self.solver.differing(nodes.gates, facts + pairs[:proved],
-                                          pairs[proved:] + nexts, limits)
+            limits = limits_for(len(nodes.gates.rows))
+            found = self.solver.differing(nodes.gates, facts, asked, limits)
             if found is None:
-                return states + of_nodes(pairs, known)
-            proved += min(found[0], len(pairs) - proved)
-            self.divide(inner, found[1])
+                return states
+            self.divide(nodes, found[1])
         return None
 
-    def inner(self, nodes: Nodes) -> Classes:
-        """Returns classes of nodes that are equal where members of classes are, as random values
-        have it, if it is hard; else there are none."""
-        made = Classes(nodes, self.classes.rng, self.classes.every)
-        if self.is_hard:
-            made.gather(nodes.all(), made.drawn(nodes.leaves()))
-            made.excite()
-        return made
-
-    def divide(self, inner: Classes, true: set[int]) -> None:
+    def divide(self, nodes: Nodes, true: set[int]) -> None:
         """Splits what a solution, and others beside it, show to be different."""
-        classes, nodes = self.classes, inner.nodes
-        size, latches = classes.size() + inner.size(), classes.size()
-        known = nodes.values(inner.beside([literal >> 1 in true for literal in nodes.leaves()]),
-                             inner.every)
-        runs, state = inner.check(known, inner.every), nodes.following(known)
-        inner.split(known, runs)
+        classes, size = self.classes, self.classes.size()
+        own = Classes(nodes, classes.rng, classes.every)
+        known = nodes.values(own.beside([literal >> 1 in true for literal in nodes.leaves()]),
+                             own.every)
+        runs, state = own.check(known, own.every), nodes.following(known)
         classes.step(state, runs)
-        if classes.size() < latches:
+        if classes.size() < size:
             classes.follow([*classes.drawn(nodes.inputs), *state], runs)
-        if classes.size() + inner.size() == size:
+        if classes.size() == size:
             raise Fault("the solver's solution is none")
 
 
 def limits_for(gates: int) -> list[str]:
     """Returns the words of cadical's limits where it is to end soon, of so many gates."""
     return ["-t", str(LEAST + gates // QUICK), *(["-c", str(FEW)] if gates <= MANY else [])]
-
-
-def of_nodes(pairs: Iterable[Pair], known: Sequence[int]) -> list[Pair]:
-    """Returns pairs of literals as those of the first nodes that have them."""
-    own = {value: literal for literal, value in reversed(list(enumerate(known)))}
-    return [(own[left], own[right]) for left, right in pairs]
 
 
 class Steps:
@@ -253,6 +230,8 @@ class Guesses:
                  solver: IncrementalQueries, given: dict[str, Any]) -> None:
         self.circuit, self.alike, self.solver, self.given = circuit, alike, solver, given
         self.counts: tuple[int, int] = (given["counts"][0], given["counts"][1])
+        # Whether the solver had no answer in time.
+        self.is_hard = False
 
     def certificate(self) -> bytes | None:
         """Returns the certificate of the first guess that a step keeps; None if there is
@@ -274,10 +253,15 @@ class Guesses:
         other = {nodes.latches[i]: nodes.latches[it] for i, it in given.items() if it is not None}
         # As many registers are seldom those of another time.
         ways: list[Iterable[Guess]] = [
-            [States(latches, self.solver)], self.present(rng), self.ahead(rng)]
+            self.latches(latches), self.present(rng), self.ahead(rng)]
         if self.counts[0] != self.counts[1]:
             ways.reverse()
         yield from itertools.chain([States(paired(latches, other), self.solver)], *ways)
+
+    def latches(self, latches: Classes) -> Iterator[Guess]:
+        """Yields registers, unless that was seen to be hard of those with partners."""
+        if not self.is_hard:
+            yield States(latches, self.solver)
 
     def present(self, rng: random.Random) -> Iterator[Guess]:
         """Yields nodes of one step."""
@@ -303,10 +287,14 @@ class Guesses:
         return stop, nodes
 
     def kept(self, guess: Guess) -> list[Pair] | None:
-        """Returns the pairs of a guess that a step keeps; None if something differs."""
+        """Returns the pairs of a guess that a step keeps; None if something differs, or it takes
+        long to be seen."""
         try:
             return guess.pairs()
         except Different:
+            return None
+        except Undecided:
+            self.is_hard = True
             return None
 
 

@@ -18,9 +18,6 @@ from aigprove.circuits.aiger import Circuit, Gates, literals_of
 Known = Sequence[int]
 # How many runs are simulated at once, at least and at most, and of how many bits in all values.
 FEWEST, MOST, BITS = 64, 4096, 1 << 28
-# In how many of these something is true that seldom is, and how often two such are tried to be made
-# different.
-SELDOM, TRIED = 32, 3
 # Of more bits than these few are inverted one by one.
 MANY = 400
 # For how many steps from the first states, from random states, and from those that a solver finds;
@@ -129,28 +126,6 @@ class Nodes:
                 known[gate] = gates.add(known[left], known[right])
                 known[gate + 1] = known[gate] ^ 1
         return self.with_gates(gates, known), known
-
-    def reached(self, literals: Iterable[int], rng: random.Random) -> list[int]:
-        """Returns inputs and latches, inverted where they are to be 0, that may make literals
-        true."""
-        first, left = self.latches.stop, list(literals)
-        values: dict[int, int] = {}
-        choices: list[Sequence[int]] = []
-        while left or choices:
-            if not left:
-                # One of two that aren't to be true together.
-                below = choices.pop()
-                if all(values.get(it >> 1) != it ^ 1 for it in below):
-                    open_ones = [it for it in below if it >> 1 not in values]
-                    left.append(rng.choice(open_ones or below) ^ 1)
-            elif (it := left.pop()) >> 1 not in values:
-                values[it >> 1] = it
-                below = self.gates.rows[(it - first) >> 1][1:] if it >= first else []
-                if it & 1 and below:
-                    choices.append(below)
-                else:
-                    left += below
-        return [it for it in values.values() if 1 < it < first]
 
     def look_ahead(self, steps: int) -> None:
         """Adds what nodes are in so many next steps, where they read no inputs of these."""
@@ -283,30 +258,6 @@ class Classes:
         while size != self.size():
             size = self.size()
             self.follow(self.merged(self.drawn(self.nodes.leaves()), self.every), self.every, DRAWN)
-
-    def excite(self) -> None:
-        """Splits classes of what is seldom true by random values that may make members
-        different."""
-        known = self.nodes.values(self.drawn(self.nodes.leaves()), self.every)
-        tried = collections.Counter[tuple[int, int]]()
-        while wanted := [(own[0], it) for own in self.rows if known[own[0]].bit_count() <= SELDOM
-                         for it in own[1:] if tried[own[0], it] < TRIED]:
-            tried.update(wanted)
-            count = self.every.bit_length()
-            for first in range(0, len(wanted), count):
-                values = self.nodes.values(self.apart(wanted[first:first + count]), self.every)
-                self.split(values, self.nodes.allowed(values, self.every))
-
-    def apart(self, pairs: Iterable[tuple[int, int]]) -> list[int]:
-        """Returns random values of inputs and latches, which may make one of these pairs different
-        in each run."""
-        leaves = self.drawn(self.nodes.leaves())
-        for run, (left, right) in enumerate(pairs):
-            side = self.rng.getrandbits(1) if left else 1
-            for it in self.nodes.reached([left ^ side, right ^ side ^ 1], self.rng):
-                value = leaves[(it >> 1) - 1]
-                leaves[(it >> 1) - 1] = value & ~(1 << run) if it & 1 else value | 1 << run
-        return leaves
 
     def merged(self, leaves: Sequence[int], every: int) -> list[int]:
         """Returns values of inputs and latches where those of a class have that of the first,

@@ -1,13 +1,15 @@
 """Two files that are compared: their miter, which aigedit makes, is asked about."""
+from __future__ import annotations
+
 import copy
-from collections.abc import Iterator, Mapping, Sequence
+from collections.abc import Iterable, Iterator, Mapping, Sequence
 
 from aigprove.circuits import simulation
-from aigprove.circuits.aiger import Circuit, Fault, Header, Symbols, decoded
+from aigprove.circuits.aiger import KINDS, Circuit, Fault, Header, Symbols, decoded
 from aigprove.circuits.minimal import SMALL, simulated
 from aigprove.circuits.simulation import SIMULATED
 from aigprove.circuits.witness import Witness
-from aigprove.designs.front_ends import kind_of
+from aigprove.designs.front_ends import FRONTS, VERILOG, kind_of
 from aigprove.equality import matched
 from aigprove.equality.matched import SIGNALS, Starts, mismatch
 from aigprove.options.options import APART, BOTH, BY_NAME, COMPARED, FIRST, DesignOptions, Options
@@ -16,9 +18,9 @@ from aigprove.output.signals import Signals, word
 from aigprove.processes.files import Sealed
 from aigprove.processes.groups import BackgroundCall
 from aigprove.processes.scheduler import Stopped
-from aigprove.questions.checker import MISFIT, Checker, Claim, Question
+from aigprove.questions.checker import MISFIT, Checker, Claim, Question, Subject
 from aigprove.questions.input_file import InputFile
-from aigprove.questions.target import Target
+from aigprove.questions.target import Statements, Target
 
 # What stands behind lines, by what constraints say.
 BEHIND = {BOTH: "", FIRST: ", under the constraints of the first alone",
@@ -36,12 +38,12 @@ Compared = tuple[str, int] | None
 class Pair(Target):
     """Two files, whose outputs and bad states are compared: their miter is asked about."""
 
-    name, prefix, so_far = "miter.aag", "miter: ", "equal"
+    name, so_far = "miter.aag", "equal"
     empty, can_be_simulated = "no output and no bad state property", False
 
     def __init__(self, options: Options, above: str, checker: Checker) -> None:
         assert options.equal
-        self.checker, self.paths = checker, [options.files[0], options.equal]
+        self.checker, self.paths = checker, [options.files[0], options.equal[0]]
         self.path = " and ".join(self.paths)
         self.known: list[Circuit] | None = None
         self.first, self.other = self.read(options, options.equal, above)
@@ -61,12 +63,13 @@ class Pair(Target):
         # From here on both circuits are seldom read.
         self.by_position, self.known = list(self.lines_by_position()), None
 
-    def read(self, options: Options, other: str, above: str) -> tuple[InputFile, InputFile]:
+    def read(self, options: Options, others: Sequence[str],
+             above: str) -> tuple[InputFile, InputFile]:
         """Returns both files, which are read side by side.
 
         If the first can't be read, or a signal comes, no reading goes on."""
-        design = of_second(options.design, other)
-        reading = BackgroundCall(InputFile, [other], design._replace(is_quiet=True),
+        design = of_second(options.design, others)
+        reading = BackgroundCall(InputFile, others, design._replace(is_quiet=True),
                                  above, self.checker, "other")
         try:
             first = InputFile(options.files, options.design, above, self.checker)
@@ -110,16 +113,20 @@ class Pair(Target):
         """Makes the miter, with uninitialised registers that begin so."""
         words = self.called("miter", matched.SUFFIXES[way])
         try:
-            self.asked = self.checker.made(*words, self.first.file, self.other.file)
+            miter = self.checker.made(*words, self.first.file, self.other.file)
         except Fault as why:
             if not str(why).startswith(MISFIT):
                 raise
             raise Fault(mismatch(self.paths, self.circuits())) from None
+        self.subject = Subject(miter)
         circuits = [] if way == APART else self.circuits()
         self.alone = list(matched.alone(way, self.paths, *circuits)) if circuits else []
         self.starts = Starts(way, *circuits)
         self.said = BEHIND[self.constraints] + self.starts.said
-        self.safe = "equal at every step" + self.said
+        _, bounded, window, _ = Statements()
+        self.lines = Statements("equal at step {k}" + self.said, bounded, window,
+                                "equal at every step" + self.said)
+        self.told = self.lines._replace(bounded=f"miter: {bounded}", window=f"miter: {window}")
 
     def called(self, command: str, suffix: str) -> list[str]:
         """Returns the words that begin a call of aigedit or aigcheck."""
@@ -181,11 +188,11 @@ class Pair(Target):
     def unsolvable(self, question: Question, proof: Sealed) -> Claim:
         if question.command != "query":
             return super().unsolvable(question, proof)
-        line = f"equal at step {question.k}{self.said}"
-        return self.compares(line, [str(question.k), question.name], {question.name: proof})
+        words = [str(question.k), question.name]
+        return self.compares(self.lines.of(question), words, {question.name: proof})
 
     def unreached(self, command: str, words: Sequence[str], files: Mapping[str, Sealed]) -> Claim:
-        return self.compares(self.safe, ["by"] * (command == "certified") + [*words], files)
+        return self.compares(self.lines.safe, ["by"] * (command == "certified") + [*words], files)
 
     def started(self) -> dict[int, int]:
         """Returns the latch of the miter, by its place, that each one starts like which does so."""
@@ -210,7 +217,7 @@ class Pair(Target):
     def circuit(self) -> Circuit:
         """Returns the circuit of the miter, whose properties have the names of what they
         compare."""
-        circuit, first = self.checker.circuit(self.asked, "MITER"), self.first.circuit()
+        circuit, first = self.checker.circuit(self.subject.file, "MITER"), self.first.circuit()
         circuit.names.update((("b", i), first.name(*place) if place else b"constraints")
                              for i, place in enumerate(self.compared()))
         if self.constraints == COMPARED:
@@ -287,15 +294,44 @@ class Pair(Target):
         step = len(traces[0].steps) - 1
         return f"a difference at step {step}{self.said}{self.behind}: {', '.join(names)}"
 
-    def lines(self, signals: Signals, circuit: Circuit, trace: Witness) -> Iterator[str]:
-        """Yields lines of a run, and of the constraints that differ at its end.
+    def lines_of_run(self, signals: Signals, circuit: Circuit, trace: Witness) -> Iterator[str]:
+        """Yields lines of a run, and of what differs at its end.
 
         They are without values that registers have only to start alike."""
         trace = self.least(circuit, trace)
-        yield from super().lines(signals, circuit, trace)
-        if self.compared()[trace.bad] is None:
-            yield from unmet("first", self.first.circuit(), trace, 0)
-            yield from unmet("second", self.other.circuit(), trace, self.latches()[0])
+        yield from super().lines_of_run(signals, circuit, trace)
+        if len(trace.steps) * len(circuit.gates) <= SIMULATED:
+            yield from self.lines_of_end(circuit, trace)
+
+    def lines_of_end(self, circuit: Circuit, trace: Witness) -> Iterator[str]:
+        """Yields lines of what differs at the end of a short run, with the values in both files.
+
+        If they depend on values of the run that don't matter, these are 0."""
+        compared, shown = self.compared(), [trace, *self.others(circuit, trace)]
+        places = [compared[it.bad] for it in self.mattering(shown)]
+        if None in places:
+            yield from unmet(*self.ends(trace))
+            return
+        lines, filled = (list(self.values(places, *self.ends(it)))
+                         for it in (trace, trace.filled()))
+        when = f"in step {len(trace.steps) - 1}" + ", with 0 for each -," * (lines != filled)
+        yield from (f"{when} {line}" for line in filled)
+
+    def values(self, places: Iterable[Compared], first: End, other: End) -> Iterator[str]:
+        """Yields lines of the values in both files of outputs, and of bad states, which differ."""
+        if outputs := {place[1] for place in places if place and place[0] == "o"}:
+            ours, theirs = first.outputs(outputs), other.outputs(outputs)
+            yield f"the first file has {ours}, and the second {theirs}"
+        verb = "fails" if self.first.design else "is true"
+        for letter, i in filter(None, places):
+            if letter == "b":
+                which = {"1": "first", "0": "second"}.get(first.values("b")[i], "")
+                yield f"{first.signals.place('b', i)} {verb} in the {which} file alone"
+
+    def ends(self, trace: Witness) -> list[End]:
+        """Returns both files at the end of a run."""
+        circuits = [self.first.circuit(), self.other.circuit()]
+        return [End(*it, trace) for it in zip(circuits, [0, self.latches()[0]])]
 
     def least(self, circuit: Circuit, trace: Witness) -> Witness:
         """Returns a run without initial values that matter only as registers start alike.
@@ -312,37 +348,52 @@ class Pair(Target):
             start[partner] = start[partner] if start[place] == "x" else start[place]
         return found._replace(start="".join(start))
 
-    def opened(self, circuit: Circuit, trace: Witness) -> set[int]:
-        return super().opened(circuit, trace) - self.started().keys()
+    def shown(self, circuit: Circuit, trace: Witness, read: set[int]) -> set[int]:
+        """Returns the latches whose first values are printed: of two that start alike the first."""
+        partners = self.started()
+        return {partners.get(place, place) for place in super().shown(circuit, trace, read)}
 
     def keep(self, evidence: Evidence) -> None:
         self.first.keep(evidence)
         self.other.keep(evidence)
         words = self.called("miter", self.starts.suffix)
-        evidence.makes(self.name, self.asked, *words, self.first.name, self.other.name)
+        evidence.makes(self.name, self.subject.file, *words, self.first.name, self.other.name)
 
 
-def unmet(which: str, circuit: Circuit, trace: Witness, place: int) -> Iterator[str]:
-    """Yields the line of the constraints of a file that are seen not to hold at the end of a run.
+class End:
+    """One of two files at the end of a run of their miter, whose latches from a place on are its
+    own: how its signals are printed, and the values of its literals."""
 
-    The file's latches are the miter's from a place on."""
-    broken: list[int] = []
-    if len(trace.steps) * len(circuit.gates) <= SIMULATED:
+    def __init__(self, circuit: Circuit, place: int, trace: Witness) -> None:
+        self.circuit, self.signals = circuit, Signals(circuit)
         start = trace.start[place:place + len(circuit.latches)]
-        *_, values = simulation.run(circuit, start, trace.steps)
-        broken = [i for i, literal in enumerate(circuit.constraints) if values[literal] == "0"]
-    if broken:
-        signals = Signals(circuit)
-        names = ", ".join(signals.place("c", i) for i in broken[:NAMED])
-        yield f"the {which} file doesn't meet {names}"
+        *_, self.literals = simulation.run(circuit, start, trace.steps)
+
+    def values(self, letter: str) -> list[str]:
+        """Returns the values of all signals of a kind."""
+        return [self.literals[literal] for literal in getattr(self.circuit, KINDS[letter])]
+
+    def outputs(self, places: set[int]) -> str:
+        """Returns the values of the outputs at these places, as they are printed."""
+        return " ".join(self.signals.values("o", self.values("o"), places))
 
 
-def of_second(options: DesignOptions, path: str) -> DesignOptions:
-    """Returns how the file is read with which another is compared.
+def unmet(*ends: End) -> Iterator[str]:
+    """Yields a line for each file whose constraints are seen not to hold at the end of a run."""
+    for which, end in zip(["first", "second"], ends):
+        broken = [i for i, value in enumerate(end.values("c")) if value == "0"]
+        if broken:
+            names = ", ".join(end.signals.place("c", i) for i in broken[:NAMED])
+            yield f"the {which} file doesn't meet {names}"
 
-    A top module, parameters and boxes are of FILE alone, and so is all else if this one isn't a
-    design."""
+
+def of_second(options: DesignOptions, paths: Sequence[str]) -> DesignOptions:
+    """Returns how the files are read with which another is compared.
+
+    A top module, parameters and boxes are of FILE alone, and so is all else that is for designs, or
+    for those in Verilog, if this isn't one."""
     own = options._replace(top=None, parameter=(), black_box=())
-    if kind_of(path, b""):
-        return own
-    return own._replace(reset=None, multiclock=False, define=(), include=())
+    kinds = [kind for path in paths if (kind := kind_of(path, b""))]
+    if not any(FRONTS[kind] == VERILOG for kind in kinds):
+        own = own._replace(define=(), include=(), stops=False)
+    return own if kinds else own._replace(reset=None, multiclock=False)

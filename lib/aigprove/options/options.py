@@ -1,4 +1,4 @@
-"""What a command line asks for, as it stays from then on."""
+"""The options of a command line, which don't change."""
 from typing import NamedTuple
 
 from aigprove.processes.files import Sealed
@@ -34,6 +34,8 @@ class DesignOptions(NamedTuple):
     parameter: tuple[tuple[str, str], ...]
     black_box: tuple[str, ...]
     multiclock: bool
+    # Whether $stop and $fatal are assertions.
+    stops: bool
     reset: Reset | None
     # The type of the cells that are asked about, and those of others that get a question of
     # their own later.
@@ -45,16 +47,17 @@ class DesignOptions(NamedTuple):
 
 
 class SolverOptions(NamedTuple):
-    """How a SAT solver is called: no words where cadical isn't installed."""
+    """How a SAT solver is called. There are no words if cadical isn't installed."""
 
     words: tuple[str, ...]
     is_cadical: bool
 
     @property
     def takes_turns(self) -> bool:
-        """Whether it is asked about one step after the other.
+        """Returns whether the solver is asked about one step after the other.
 
-        A proof with hints is checked in far less time than one of steps in turn, which has none."""
+        A proof with hints is checked in far less time than a proof of steps in turn, which has
+        no hints."""
         return self.is_cadical and HINTED not in self.words
 
 
@@ -79,7 +82,7 @@ class Options(NamedTuple):
     engines: tuple[str, ...]
     are_engines_named: bool
     # Which question is asked.
-    equal: str | None
+    equal: tuple[str, ...] | None
     starts: str | None
     constraints: str | None
     property: int | None

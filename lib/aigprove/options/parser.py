@@ -1,7 +1,7 @@
-"""The command line: the words that it may have, what they stand for, and the options that they come
-to.
+"""The command line: the arguments that it may have, what they stand for, and the options that they
+come to.
 
-A row of `words.txt` has the flags of an option, what stands behind it, and its help."""
+`tables.py` has the options' names and help texts."""
 import argparse
 import math
 import os
@@ -9,15 +9,17 @@ import re
 import shlex
 import subprocess
 import sys
+import textwrap
 import time
 from collections.abc import Callable, Iterable, Sequence
 from typing import IO, Any, NoReturn, TypeVar
 
-from aigprove import VERSION
+from aigprove import release
 from aigprove.circuits.aiger import Fault
 from aigprove.data import text
 from aigprove.designs.front_ends import ASSERT, COVER, FAIR, LIVE
 from aigprove.engines.rows import FILES, PAIRS, ROWS, names_of
+from aigprove.options import tables
 from aigprove.options.options import (CONSTRAINTS, HINTED, STARTS, DesignOptions, Options, Programs,
                                       Reset, SolverOptions)
 from aigprove.output.messages import escaped, tell
@@ -37,7 +39,7 @@ MOST_LISTS, LISTED = 16, ("-D", "-I", "-f")
 class Parser(argparse.ArgumentParser):
     """A parser of a command line, whose refused words can't drive a terminal.
 
-    If standard output fails, that is a fault."""
+    A failure of standard output is an error."""
 
     def error(self, message: str) -> NoReturn:
         super().error(escaped(message))
@@ -49,20 +51,28 @@ class Parser(argparse.ArgumentParser):
             tell(message, end="")
 
 
+class Version(argparse.Action):
+    """An option that says the version, which is looked up for nothing else."""
+
+    def __call__(self, parser: argparse.ArgumentParser, *_: object) -> NoReturn:
+        parser._print_message(release.version(TOP), sys.stdout)
+        parser.exit()
+
+
 def fitting(word: str, pattern: str, why: str) -> re.Match[str]:
-    """Returns how a word fits a pattern; where it doesn't it is refused."""
+    """Returns how an argument fits a pattern, or refuses it."""
     if found := re.fullmatch(pattern, word):
         return found
-    raise argparse.ArgumentTypeError(f"{word} is no {why}")
+    raise argparse.ArgumentTypeError(f"{word} isn't {why}")
 
 
 def count(pattern: str, what: str, kind: Callable[[str], Number],
           most: int = (1 << 32) - 1) -> Callable[[str], Number]:
-    """Returns the type of words with this spelling, which are numbers up to the greatest."""
+    """Returns the type of arguments with this spelling, which are numbers up to a greatest one."""
 
     def taken(word: str) -> Number:
         if not re.fullmatch(pattern, word) or kind(word) > most:
-            raise argparse.ArgumentTypeError(f"{word} is no number of {what}")
+            raise argparse.ArgumentTypeError(f"{word} isn't a number of {what}")
         return kind(word)
 
     return taken
@@ -76,14 +86,14 @@ def mebibytes(word: str) -> int:
 def nonempty(word: str) -> str:
     """Returns the name of a file."""
     if not word:
-        raise argparse.ArgumentTypeError("an empty name is no file's")
+        raise argparse.ArgumentTypeError("the name of the file is empty")
     return word
 
 
 def reset(word: str) -> Reset:
-    """Returns a reset that is spelled SIGNAL, SIGNAL=V, or either with :N."""
+    """Returns the reset that an argument SIGNAL, SIGNAL=V, SIGNAL:N or SIGNAL=V:N describes."""
     found = fitting(word, f"({IDENTIFIER})(?:=([01]))?(?::([1-9][0-9]{{0,3}}))?",
-                    "signal with a value 0 or 1 and a number of steps, as rst_n=0:2")
+                    "SIGNAL, SIGNAL=V or SIGNAL=V:N with V 0 or 1, such as rst_n=0:2")
     return Reset(found[1], int(found[2] or 1), int(found[3] or 1))
 
 
@@ -92,41 +102,43 @@ def macro(word: str) -> tuple[str, str]:
     name, is_given, value = word.partition("=")
     is_name = re.fullmatch(IDENTIFIER, name)
     if not is_name or not value.isprintable() or value.endswith("\\"):
-        raise argparse.ArgumentTypeError(f"{word} is no NAME or NAME=TEXT of one line, as WIDTH=8")
+        raise argparse.ArgumentTypeError(f"{word} isn't NAME or NAME=TEXT in one line, "
+                                         "such as WIDTH=8")
     return name, value if is_given else "1"
 
 
 def module(word: str) -> str:
     """Returns the name of a module."""
-    return fitting(word, IDENTIFIER, "name of a module")[0]
+    return fitting(word, IDENTIFIER, "a name of a module")[0]
 
 
 def parameter(word: str) -> tuple[str, str]:
     """Returns the name and the value of a parameter."""
     value = "-?[0-9]+|[0-9]+'s?(?:b[01_]+|o[0-7_]+|d[0-9_]+|h[0-9A-Fa-f_]+)"
     found = fitting(word, f"({IDENTIFIER})=({value})",
-                    "NAME=NUMBER, as WIDTH=8 or MODE=2'b10 (-D gives a text)")
+                    "NAME=NUMBER, such as WIDTH=8 or MODE=2'b10 (-D takes a text)")
     return found[1], found[2]
 
 
 def engines(word: str) -> list[str]:
     """Returns the names of engines."""
     names = word.replace("abc", "bmc3,pdr").split(",")
-    if not set(names) <= set(ROWS):
-        raise argparse.ArgumentTypeError(f"{word} names others than {', '.join(ROWS)} and abc")
+    if unknown := [name for name in names if name not in ROWS]:
+        known = ", ".join([*ROWS, "abc"])
+        raise argparse.ArgumentTypeError(f"unknown engine {unknown[0]}; known engines: {known}")
     return names
 
 
 def made_by() -> dict[str, dict[str, Any]]:
-    """Returns how options are read, by the last of their flags, but for names and switches."""
+    """Returns how options are read, by the last of their flags, except for names and switches."""
     several: dict[str, Any] = {"action": "append", "default": []}
     index, positive = "[0-9]{1,10}", "[1-9][0-9]{0,9}"
     return {
         "files": {"type": nonempty, "nargs": "+"}, "--top": {}, "-f": {},
         "--define": {"type": macro, **several}, "--include": {"type": nonempty, **several},
         "--parameter": {"type": parameter, **several}, "--black-box": {"type": module, **several},
-        "--reset": {"type": reset},
-        "--version": {"action": "version", "version": f"aigprove {VERSION}"},
+        "--reset": {"type": reset}, "--equal": {"type": nonempty, "action": "append"},
+        "--version": {"action": Version, "nargs": 0},
         "--property": {"type": count(index, "a property", int)},
         "--justice": {"type": count(index, "a justice property", int)},
         "--starts": {"choices": STARTS}, "--constraints": {"choices": CONSTRAINTS},
@@ -140,38 +152,61 @@ def made_by() -> dict[str, dict[str, Any]]:
     }
 
 
+def description() -> str:
+    """Returns what stands before the options in the help text."""
+    shown = [f"  {engine.name:10}{engine.does}" for engine in tables.engines()]
+    lines = [line for item in shown for line in textwrap.wrap(item, 78, subsequent_indent=" " * 12)]
+    return "\n".join([text("options/about.txt"), "Engines:", *lines])
+
+
+def epilog() -> str:
+    """Returns what stands behind the options in the help text."""
+    shown = [f"  {status.number:4}{status.when}" for status in tables.statuses()]
+    lines = [line for item in shown for line in textwrap.wrap(item, 78, subsequent_indent=" " * 6)]
+    return "\n".join(["Exit status:", *lines])
+
+
 def make_parser() -> Parser:
     """Returns the parser of the command line."""
-    it = Parser("aigprove", description=text("options/about.txt"), epilog=text("options/ends.txt"),
+    it = Parser("aigprove", description=description(), epilog=epilog(),
                 formatter_class=argparse.RawDescriptionHelpFormatter)
-    loud, made = it.add_mutually_exclusive_group(), made_by()
-    for row in text("options/words.txt").splitlines():
-        words, behind, told = row.split("\t")
-        *_, name = flags = words.split(" ")
-        named: dict[str, Any] = {"metavar": behind} if behind else {}
-        other: dict[str, Any] = {"type": nonempty} if behind else {"action": "store_true"}
-        group = loud if name in ("--verbose", "--quiet") else it
-        group.add_argument(*flags, help=told, **named, **made.get(name, other))
+    made = made_by()
+    for section in tables.sections():
+        group = it.add_argument_group(section.title)
+        loud = group.add_mutually_exclusive_group() if section.title == "Output" else group
+        for option in section.options:
+            *_, name = option.flags
+            named: dict[str, Any] = {"metavar": option.value} if option.value else {}
+            other: dict[str, Any] = {"type": nonempty} if option.value else {"action": "store_true"}
+            place = loud if name in ("--verbose", "--quiet") else group
+            place.add_argument(*option.flags, help=option.help_text(),
+                               **named, **made.get(name, other))
     it.add_argument(END, action="store_true", dest="end", help=argparse.SUPPRESS)
     return it
 
 
 def listed(line: Sequence[str], depth: int = 0) -> list[str]:
-    """Returns a command line with the words of each list in the place of -f and its name."""
+    """Returns a command line with the words of each list in the place of -f and its name: each file
+    of one behind --equal is one of that option's."""
     found: list[str] = []
-    words = iter(line)
+    words, is_equal = iter(line), False
     for word in words:
         if word == "--":
             return [*found, word, *words]
         path = (word[2:] or next(words, "")) if word.startswith("-f") else ""
-        found += of_list(path, depth) if path else [word]
+        inner = of_list(path, depth) if path else [word]
+        if path and is_equal:
+            found[-1:] = [it if it.startswith("-") else f"--equal={it}" for it in inner]
+        else:
+            found += inner
+        is_equal = word == "--equal"
     return found
 
 
 def of_list(path: str, depth: int) -> list[str]:
     """Returns the words of a list of files, which may have others in it."""
     if depth > MOST_LISTS:
-        raise Fault(f"{path} is in itself")
+        raise Fault(f"{path} includes itself")
     said = sealed(path).data().decode("utf-8", "surrogateescape")
     words: list[str] = []
     given = iter(shlex.split(re.sub(r"(?m)(^|\s)//.*", "", said), comments=True))
@@ -184,37 +219,35 @@ def of_list(path: str, depth: int) -> list[str]:
         else:
             words.append(word + next(given, "") if word in LISTED else word)
         if word.startswith("-") and not word.startswith(LISTED):
-            raise Fault(f"{path}: {word} is no file, -D, -I or -f")
+            raise Fault(f"{path}: {word} is neither a file nor -D, -I or -f")
     return listed(words, depth + 1)
 
 
 def program(places: Iterable[str], missing: str) -> str:
-    """Returns the path of the first of some programs that is there."""
+    """Returns the path of the first of some programs that exists."""
     for place in places:
         if path := path_of(place):
             return os.path.abspath(path)
     raise Fault(missing)
 
 
-def trusted(name: str, given: str | None) -> str:
-    """Returns the path of one of our programs.
-
-    That is the one that is given, beside this script, built here, or in PATH."""
-    built = [os.path.join(TOP, "bin", name), os.path.join(TOP, "crates", name, "out", name)]
-    missing = f"{given or name} is not there; " \
-        f"tests/run builds it, and so does `rt run` in crates/{name}"
-    return program([given] if given else [*built, name], missing)
+def trusted(name: str, given: str | None, is_prebuilt: bool) -> str:
+    """Returns the path of one of our programs: the one that is given, or the first that is there.
+    """
+    missing = f"{given or name} was not found; ./build builds {name}, and so does `rt run` " \
+        f"in crates/{name}"
+    return program([given] if given else release.places(TOP, name, is_prebuilt), missing)
 
 
 def found(name: str) -> str:
     """Returns the path of another program."""
-    return program([name], f"{name} is not there")
+    return program([name], f"{name} was not found")
 
 
 def cadical() -> list[str]:
     """Returns the words that call cadical for a proof in text, with hints if it knows them.
 
-    There are none if it isn't installed."""
+    There are no words if it isn't installed."""
     try:
         options = subprocess.run(["cadical", "--help"], stdin=subprocess.DEVNULL,
                                  capture_output=True).stdout
@@ -224,7 +257,7 @@ def cadical() -> list[str]:
 
 
 def marked(line: Sequence[str]) -> list[str]:
-    """Returns a command line whose words behind -- are no options.
+    """Returns a command line in which arguments behind -- can't be options.
 
     Those that begin with a dash become paths from here."""
     end = line.index("--") if "--" in line else len(line)
@@ -250,27 +283,28 @@ def parse(line: Sequence[str]) -> Options:
     return record(
         Options, words, design=design_options(words, deadline), deadline=deadline,
         solver=solver_options(words.solver), abc=words.abc and found(words.abc),
-        programs=Programs(*(trusted(name, getattr(words, name)) for name in PROGRAMS)),
+        programs=Programs(*(trusted(name, getattr(words, name), words.prebuilt)
+                            for name in PROGRAMS)),
         engines=tuple(engines), are_engines_named=bool(words.engine),
         certificate=certificate, run=run)
 
 
 def record(made: type[Record], words: argparse.Namespace, /, **further: object) -> Record:
-    """Returns a record of what a command line says, and what follows from that."""
+    """Returns a record of the options of a command line, and of what follows from them."""
     given = {name: tuple(it) if isinstance(it, list) else it
              for name, it in vars(words).items() if name in made._fields}
     return made(**{**given, **further})
 
 
 def age() -> float:
-    """Returns for how many seconds this process has run, which may have begun slowly."""
+    """Returns for how many seconds this process has run. Its start may have taken long."""
     with open("/proc/self/stat", encoding="utf-8", errors="replace") as file:
         begun = int(file.read().rpartition(")")[2].split()[19])
     return time.clock_gettime(time.CLOCK_BOOTTIME) - begun / os.sysconf("SC_CLK_TCK")
 
 
 def take_top(parser: Parser, words: argparse.Namespace) -> None:
-    """Takes a last word that may be a name as the top module's."""
+    """Takes a last argument that could be a name for the top module's name."""
     names = [i for i, word in enumerate(words.files)
              if i and re.fullmatch(IDENTIFIER, word)]
     if names and names[0] < len(words.files) - 1 or names and words.top:
@@ -280,7 +314,7 @@ def take_top(parser: Parser, words: argparse.Namespace) -> None:
 
 
 def design_options(words: argparse.Namespace, deadline: float) -> DesignOptions:
-    """Returns how a design is read; what is asked of it first, and what by itself."""
+    """Returns how a design is read, and what is asked about first and by itself."""
     is_one = words.equal or words.certificate or words.run or words.aiger \
         or words.property is not None
     later = set() if is_one else {LIVE, FAIR, *[COVER] * words.each}
@@ -290,37 +324,37 @@ def design_options(words: argparse.Namespace, deadline: float) -> DesignOptions:
 
 
 def solver_options(words: list[str] | None) -> SolverOptions:
-    """Returns how the SAT solver is called that these words name, or else cadical."""
+    """Returns how the SAT solver that the option names, or cadical, is called."""
     called = words or cadical()
     return SolverOptions((*map(found, called[:1]), *called[1:]), is_cadical=not words)
 
 
 def check_together(parser: Parser, words: argparse.Namespace) -> None:
-    """Refuses questions that have no meaning beside one another."""
+    """Refuses questions that can't be combined."""
     others = words.equal or words.certificate or words.run or words.each
     if words.justice is not None and (others or words.property is not None):
-        parser.error("--justice goes with none of --equal, --certificate, --run, --each and "
+        parser.error("--justice can't be combined with --equal, --certificate, --run, --each or "
                      "--property")
     if words.write_certificate and (words.certificate or words.run):
-        parser.error("--write-certificate is about an answer of our own, and not with "
-                     "--certificate and --run")
+        parser.error("--write-certificate can't be combined with --certificate or --run: it "
+                     "writes a certificate of aigprove's own answer")
 
 
 def check_each(parser: Parser, words: argparse.Namespace) -> None:
-    """Refuses words that are for a table, or not for one, or for two files."""
+    """Refuses options that are only for a table, not for a table, or only for two files."""
     alone = [f"--{name}" for name in ["json", "junit", "shortest"] if getattr(words, name)]
     if alone and not words.each:
-        parser.error(f"{alone[0]} is for the table of --each")
+        parser.error(f"{alone[0]} needs --each")
     single = ["equal", "certificate", "write_certificate", "run", "property", "aiger"]
     for name in single if words.each else ["equal"] if words.property is not None else []:
         if getattr(words, name) is not None and getattr(words, name) is not False:
             option = "--each" if words.each else "--property"
-            parser.error(f"--{name.replace('_', '-')} is about one question, and not with "
-                         + option)
+            parser.error(f"--{name.replace('_', '-')} can't be combined with {option}")
     for name in ["starts", "constraints"]:
         if getattr(words, name) and not words.equal:
-            parser.error(f"--{name} is for --equal")
+            parser.error(f"--{name} needs --equal")
     if words.tasks and not words.keep:
-        parser.error("--tasks keeps what is asked about in a folder: --keep FOLDER says which")
+        parser.error("--tasks needs --keep FOLDER")
     if words.gather and (words.keep or words.tasks):
-        parser.error("--gather asks nothing: --keep FOLDER goes on with what FOLDER has")
+        parser.error("--gather can't be combined with --keep or --tasks: --keep FOLDER continues "
+                     "FOLDER")

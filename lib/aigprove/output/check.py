@@ -12,7 +12,8 @@ import subprocess
 import sys
 from typing import Any, NoReturn
 
-# Lines are printed where they stand in the evidence, or those of a table at its end.
+# Lines that aigcheck printed, in the order of the evidence, and then those of a table, or the one
+# that says that the answer is vacuous, which rest on these.
 Lines = list[str]
 
 
@@ -46,8 +47,6 @@ def check_files(folder: str, sums: dict[str, str]) -> None:
 
 def shown(folder: str, limit: list[str], step: dict[str, Any]) -> Lines:
     """Returns the line of a step of the evidence, once a program has shown it."""
-    if "says" in step:
-        return [step["says"]]
     words = [program("aigcheck" if "shows" in step else "aigedit"), *limit, *step["by"]]
     done = subprocess.run(words, cwd=folder, stdin=subprocess.DEVNULL, stdout=subprocess.PIPE)
     if "shows" in step:
@@ -71,7 +70,8 @@ def check(folder: str) -> Lines:
         if part in ("", ".", "..") or "/" in part:
             fail(f"{part} is no folder in this one")
         lines += check(os.path.join(folder, part))
-    return lines if kept["table"] is None else list(kept["table"])
+    vacuous = kept.get("vacuous")
+    return lines + list(kept["table"] or [vacuous] * bool(vacuous))
 
 
 def main() -> None:

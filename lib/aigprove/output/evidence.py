@@ -37,13 +37,15 @@ class Evidence:
         # What is in the folder, and the sums of those files that are evidence.
         self.names: set[str] = set()
         self.sums: dict[str, str] = {}
-        # Which engine answered after how many seconds; the steps; the folders in this one, and the
-        # lines of a table, if these are printed alone.
+        # Which engine answered after how many seconds; the steps; the folders in this one; the
+        # lines of a table, if these are printed alone; and the line that says that what is shown
+        # is so only because no run meets the assumptions.
         programs = {"aigcheck": checker.aigcheck[0], "aigedit": checker.aigedit[0]}
         versions = {name: version(checker.task, path) for name, path in programs.items()}
         self.kept: dict[str, Any] = {
             "versions": {"aigprove": VERSION, **versions}, "limit": limit, "engine": None,
-            "seconds": None, "files": self.sums, "steps": [], "parts": [], "table": None}
+            "seconds": None, "files": self.sums, "steps": [], "parts": [], "table": None,
+            "vacuous": None}
         self.open()
 
     def open(self) -> None:
@@ -82,14 +84,14 @@ class Evidence:
         """Notes which engine answered, and after how many seconds."""
         self.kept |= {"engine": engine, "seconds": round(seconds, 1)}
 
+    def note_vacuous(self, line: str | None) -> None:
+        """Notes the line that says that no run meets the assumptions, if none does."""
+        self.kept["vacuous"] = line
+
     def makes(self, name: str, file: Sealed, *words: str) -> None:
         """Puts a file into the folder, and adds the words with which aigedit prints it."""
         self.put(name, file)
         self.add(makes=name, by=list(words))
-
-    def says(self, line: str) -> None:
-        """Adds a line that follows from others."""
-        self.add(says=line)
 
     def part(self, name: str) -> None:
         """Adds what is kept in a folder in this one."""

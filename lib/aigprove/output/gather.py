@@ -16,25 +16,20 @@ from aigprove.output.messages import reason, say
 from aigprove.output.report import PropertyAnswer
 from aigprove.processes.files import NODE, Sealed, opened
 from aigprove.processes.scheduler import for_each
-from aigprove.questions.assumptions import ENDLESS
-from aigprove.questions.bad_states import BadStates
 from aigprove.questions.checker import Checker, Claim, header_of
-from aigprove.questions.justice import Justices
+from aigprove.questions.target import Statements, statements_about
 
-# The commands of aigcheck whose lines say something of one file.
+# The commands of aigcheck whose lines say something of one file, and what may stand before them: a
+# word and a number.
 COMMANDS = {"refuted", "inductive", "certified", "run", "safe"}
-PROPERTY = re.compile(r"(property|justice)-([0-9]{1,9})\.aag")
+CHOOSING, COUNT = {"--property", "--justice", "--rounds"}, re.compile("[0-9]{1,9}")
 NAME = re.compile(r"[A-Za-z0-9_][A-Za-z0-9_.-]*")
 ENGINE = re.compile(r"[a-z0-9]{1,20}")
-STEP = re.compile("no bad state at step ([0-9]+)")
-STEPS = re.compile("no bad state up to step ([0-9]+)")
-RUN = re.compile("b([0-9]+) at step [0-9]+")
-SAFE, NONE = "no bad state at any step", "no fair run of j{}"
-# The words that come before the number of a justice property, and behind that before a number of
-# rounds.
-JUSTICE, ROUNDS, COUNT = "--justice", "--rounds", re.compile("[0-9]{1,9}")
-# The files of what is kept of assumptions, which are looked at anew.
-ASSUMED = ("possible.aag", ENDLESS)
+# What shows a property: the letter of its kind, and its number.
+RUN = re.compile("([bj])([0-9]{1,9}) (?:at step [0-9]+|in a loop from step [0-9]+ to [0-9]+)")
+# What is kept of assumptions, which are looked at anew.
+ASSUMED = {"--possible", "--endless"}
+OF_ASSUMED = ("possible.aag", "endless.aag")
 
 
 def taken(path: str, limit: int) -> Sealed:
@@ -51,19 +46,22 @@ def taken(path: str, limit: int) -> Sealed:
 
 
 class Line(NamedTuple):
-    """A line that is kept.
-
-    That is the folder, the name of the file that it is about, what is to be shown, the words that
-    ask about a justice property of that file, if it does, the other words, and which engine
-    answered after how many seconds, as is noted there."""
+    """A line that is kept in a folder, the words that show it, and which engine answered after how
+    many seconds, as is noted there."""
 
     part: str
-    name: str
     line: str
-    setting: Sequence[str] = ()
     words: Sequence[str] = ()
     engine: str = ""
     seconds: float | None = None
+
+    def parted(self) -> tuple[dict[str, str], Sequence[str]]:
+        """Returns the numbers that stand before the command by the words before them, and the
+        other words."""
+        chosen, left = dict[str, str](), list(self.words)
+        while left and left[0] in CHOOSING and COUNT.fullmatch("".join(left[1:2])):
+            chosen[left[0]], left = left[1], left[2:]
+        return chosen, left
 
 
 class Found(NamedTuple):
@@ -75,28 +73,19 @@ class Found(NamedTuple):
     trace: Witness | None
 
 
-def kept_in(folder: str, part: str, limit: int) -> tuple[list[Line], dict[str, str]]:
-    """Returns the lines of what is kept in a part of a folder, and of which file each file that
-    they are about was made. What has a table has lines of its parts alone."""
-    path = os.path.join(folder, part, EVIDENCE)
+def lines_in(folder: str, part: str, limit: int) -> list[Line]:
+    """Returns the lines of what is kept in a part of a folder: those of a table are in its
+    parts."""
     try:
-        kept = json.loads(taken(path, limit).data())
+        kept = json.loads(taken(os.path.join(folder, part, EVIDENCE), limit).data())
         steps = [] if kept["table"] is not None else kept["steps"]
         shown = [(step["shows"], step["by"]) for step in steps if "shows" in step]
-        made = {step["makes"]: step["by"] for step in steps if "makes" in step}
-        if not all(are_texts([name, *by]) for name, by in [*shown, *made.items()]):
+        if not all(isinstance(it, str) for line, by in shown for it in [line, *by]):
             raise ValueError
     except (ValueError, LookupError, TypeError, RecursionError):
         raise Fault(f"{part or folder}: {EVIDENCE} has another form") from None
     noted = answered_by(kept)
-    lines = [it for line, by in shown if (it := line_of(part, line, by, *noted))]
-    return lines, {name: by[1] for name, by in made.items()
-                   if by[:1] in (["property"], ["live"]) and len(by) == 3}
-
-
-def are_texts(values: Iterable[object]) -> bool:
-    """Returns whether all of some values are texts."""
-    return all(isinstance(value, str) for value in values)
+    return [Line(part, line, by, *noted) for line, by in shown]
 
 
 def answered_by(kept: dict[str, Any]) -> tuple[str, float | None]:
@@ -104,23 +93,6 @@ def answered_by(kept: dict[str, Any]) -> tuple[str, float | None]:
     engine, seconds = kept.get("engine"), kept.get("seconds")
     is_noted = isinstance(engine, str) and ENGINE.fullmatch(engine)
     return (str(engine), seconds) if is_noted and isinstance(seconds, (int, float)) else ("", None)
-
-
-def setting_of(words: Sequence[str], name: str) -> tuple[Sequence[str], Sequence[str]]:
-    """Returns the first two words, if they are this name and a number, and the others."""
-    is_there = words[:1] == [name] and COUNT.fullmatch("".join(words[1:2])) is not None
-    count = 2 if is_there else 0
-    return words[:count], words[count:]
-
-
-def line_of(part: str, line: str, by: Sequence[str], engine: str,
-            seconds: float | None) -> Line | None:
-    """Returns the line that these words show, if it is about a file."""
-    setting, left = setting_of(by, JUSTICE)
-    rounds, left = setting_of(left, ROUNDS) if setting else ([], left)
-    if len(left) < 2:
-        return None
-    return Line(part, left[1], line, [*setting, *rounds], left, engine, seconds)
 
 
 class Gathered:
@@ -150,7 +122,7 @@ class Gathered:
         path = os.path.join(self.folder, "" if name.startswith(ABOVE) else folder, base)
         if path not in self.known:
             data = taken(path, self.checker.limit).data()
-            self.known[path] = [it for it in self.parts if it.source.asked.data() == data]
+            self.known[path] = [it for it in self.parts if it.source.subject.file.data() == data]
         for part in self.known[path]:
             if part.source.option == option:
                 return part
@@ -158,50 +130,56 @@ class Gathered:
 
     def claim(self, line: Line, file: Sealed) -> Claim:
         """Returns the claim of a line about a file, with the files of its folder."""
-        command, _, *words = line.words
+        _, (command, _, *words) = line.parted()
         if command not in COMMANDS:
             raise Fault(f"{command} is no command that shows an answer")
         paths = {word: os.path.join(self.folder, line.part, word)
                  for word in words if NAME.fullmatch(word)}
         given = {word: taken(path, self.checker.limit) for word, path in paths.items()
                  if os.path.lexists(path)}
-        words = [*line.setting, command, "FILE", *words]
-        return Claim(line.line, words, {**given, "FILE": file})
+        return Claim(line.line, self.named(line, "FILE", words), {**given, "FILE": file})
 
-    def checked(self, line: Line, made: dict[str, str]) -> Found | None:
+    def named(self, line: Line, name: str, words: Iterable[str]) -> list[str]:
+        """Returns the words that show a line about a file of this name, which end so."""
+        chosen, (command, *_) = line.parted()
+        return [*(it for pair in chosen.items() for it in pair), command, name, *words]
+
+    def checked(self, line: Line) -> Found | None:
         """Returns what a line is about, once aigcheck prints it."""
         try:
-            found = PROPERTY.fullmatch(line.name)
-            option, number = (found[1], int(found[2])) if found else (BadStates.option, None)
-            if line.setting:
-                option, number, found = Justices.option, int(line.setting[1]), None
-            part = self.part_of(made.get(line.name, line.name), line.part, option)
-            if number is not None and number >= len(part.answers):
+            chosen, left = line.parted()
+            run = RUN.fullmatch(line.line)
+            is_fair = run[1] == "j" if run else "--justice" in chosen
+            option = "justice" if is_fair else "property"
+            number = run[2] if run else chosen.get(f"--{option}")
+            part = self.part_of(left[1], line.part, option)
+            if number is not None and int(number) >= len(part.answers):
                 raise Fault(f"there is no {option} {number}")
-            is_own = found is not None and number is not None
-            source = part.sources[number or 0] if is_own else part.source
-            claim = self.claim(line, source.asked)
+            claim = self.claim(line, part.source.subject.file)
             self.checker.check(claim)
-            trace = trace_of(claim) if RUN.fullmatch(line.line) else None
-            return Found(part, number, line, trace)
+            trace = trace_of(claim, run[1]) if run else None
+            return Found(part, None if number is None else int(number), line, trace)
         except (Fault, OSError) as why:
             place = os.path.join(self.folder, line.part)
             say(f"{place}: not shown: {line.line}: {reason(why)}")
             return None
 
-    def lines(self) -> Iterator[tuple[Line, dict[str, str]]]:
-        """Yields the lines of all parts, with what each part makes."""
+    def lines(self) -> Iterator[Line]:
+        """Yields the lines of all parts that are about files, but for those of assumptions."""
         for part in self.places():
             try:
-                lines, made = kept_in(self.folder, part, self.checker.limit)
+                lines = lines_in(self.folder, part, self.checker.limit)
             except Fault as why:
                 say(why)
                 continue
-            yield from ((line, made) for line in lines if not line.name.endswith(ASSUMED))
+            for line in lines:
+                _, left = line.parted()
+                if len(left) > 1 and left[0] not in ASSUMED and left[1] not in OF_ASSUMED:
+                    yield line
 
     def take(self, jobs: int) -> None:
         """Has all lines checked, several at once, and puts what follows into the answers."""
-        found = for_each(list(self.lines()), jobs, lambda pair: self.checked(*pair))
+        found = for_each(list(self.lines()), jobs, self.checked)
         self.found = [it for it in found if it]
         for part in self.parts:
             for answer in part.answers:
@@ -210,17 +188,11 @@ class Gathered:
 
     def keep(self, folder: EvidenceFolder) -> None:
         """Has the whole folder show what was checked, by no line of another."""
-        for found in self.found:
-            assert found.part
-            line, name = found.line, found.part.source.name
-            command, _, *words = line.words
-            if found.number is not None and not line.setting:
-                source = found.part.sources[found.number]
-                name = f"{source.stem}.aag"
-                folder.makes(name, source.asked, source.command, found.part.source.name,
-                             str(found.number))
+        for line, part in ((found.line, found.part) for found in self.found):
+            assert part
+            _, (_, _, *words) = line.parted()
             words = [self.placed(line.part, word) for word in words]
-            folder.add(shows=line.line, by=[*line.setting, command, name, *words])
+            folder.add(shows=line.line, by=self.named(line, part.source.name, words))
 
     def placed(self, part: str, word: str) -> str:
         """Returns a word of a part as it is called from the whole folder."""
@@ -228,28 +200,28 @@ class Gathered:
         return os.path.join(part, word) if is_file else word
 
 
-def trace_of(claim: Claim) -> Witness:
-    """Returns the witness of a claim about a run."""
-    return read_for(claim.files[claim.words[2]].data(), header_of(claim.files["FILE"]))
+def trace_of(claim: Claim, letter: str) -> Witness:
+    """Returns the witness of a claim about a run to a property of this kind."""
+    *_, name = claim.words
+    return read_for(claim.files[name].data(), header_of(claim.files["FILE"]), letter)
 
 
-def conclude(answer: PropertyAnswer, found: Iterable[Found]) -> None:
+def conclude(answer: PropertyAnswer, found: Sequence[Found]) -> None:
     """Takes what follows of a property from lines that were checked.
 
-    They are of its own file, and of the whole file."""
-    found = list(found)
+    They are about it, or about all properties of its file."""
     answer.parts += dict.fromkeys(it.line.part for it in found)
-    texts = [it.line.line for it in found]
-    shown = {int(step[1]) for text in texts if (step := STEP.fullmatch(text))}
-    upto = [int(steps[1]) + 1 for text in texts if (steps := STEPS.fullmatch(text))]
-    answer.steps = max([answer.steps, *upto])
-    while answer.steps in shown:
+    is_fair = answer.letter == "j"
+    every = [statements_about(answer.letter, answer.number), *[Statements()] * (not is_fair)]
+    one_step, up_to = ({k for it in found for own in every
+                        if (k := own.last_step(command, it.line.line)) is not None}
+                       for command in ("query", "bounded"))
+    answer.steps = max([answer.steps, *(k + 1 for k in up_to)])
+    while answer.steps in one_step:
         answer.steps += 1
-    is_justice = answer.letter == Justices.letter
-    safe = NONE.format(answer.number) if is_justice else SAFE
     for it in found:
-        run, bad = RUN.fullmatch(it.line.line), answer.number if it.number is None else 0
-        if it.line.line == safe:
+        run = RUN.fullmatch(it.line.line)
+        if it.line.line in {own.safe for own in every}:
             answer.take(None, it.line.engine, it.line.seconds)
-        elif run and int(run[1]) == bad:
+        elif run and (run[1] == "j") == is_fair and int(run[2]) == answer.number:
             answer.take(it.trace, it.line.engine, it.line.seconds)

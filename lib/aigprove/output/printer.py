@@ -12,11 +12,10 @@ from typing import TYPE_CHECKING
 from aigprove.circuits.aiger import Fault
 from aigprove.circuits.minimal import SMALL, minimal, simulated
 from aigprove.circuits.witness import Witness
-from aigprove.engines.job import (SAFE, UNSAFE, Answer, Certified, CountedRounds, Induction,
-                                  Job, RunFound, StepShown)
+from aigprove.engines.job import SAFE, UNSAFE, Answer, Job, RunFound, StepShown
 from aigprove.output.messages import report, say, show_progress
 from aigprove.output.signals import Signals
-from aigprove.processes.files import write
+from aigprove.processes.files import Sealed, write
 from aigprove.questions.checker import Claim, Question
 
 if TYPE_CHECKING:
@@ -33,9 +32,7 @@ class Printer:
     def __init__(self, job: Job, evidence: Evidence | None) -> None:
         self.job, self.evidence, self.problem = job, evidence, job.problem
         self.options, self.source, self.board = job.options, job.source, job.board
-        # The last line that was printed, the run that was, and the exit status, once the line of
-        # the answer is printed.
-        self.last: str | None = None
+        # The run that was printed, and the exit status, once the line of the answer is printed.
         self.trace: Witness | None = None
         self.status: int | None = None
 
@@ -68,11 +65,12 @@ class Printer:
         if isinstance(answer, RunFound):
             self.print_run(answer.traces)
             return UNSAFE
-        if isinstance(answer, Induction):
-            self.print_claim(answer.window, self.source.prefix)
-        self.print_claim(answer.claim, is_answer=True)
+        *before, claim = answer.claims
+        for it in before:
+            self.print_claim(it)
+        self.print_claim(claim, is_answer=True)
         self.status = SAFE
-        self.certify(answer)
+        self.certify(answer.certificate)
         return SAFE
 
     def print_line(self, line: str, is_answer: bool = False) -> None:
@@ -80,31 +78,29 @@ class Printer:
         show_progress()
         if not self.options.aiger and (is_answer or not self.options.quiet):
             print(line, flush=True)
-        self.last = line
 
-    def print_claim(self, claim: Claim, prefix: str = "", is_answer: bool = False) -> None:
+    def print_claim(self, claim: Claim, is_answer: bool = False) -> None:
         """Prints a line that was checked, and keeps what shows it."""
-        self.print_line(prefix + claim.line + self.source.behind, is_answer)
+        self.print_line((claim.told or claim.line) + self.source.behind, is_answer)
         if self.evidence:
             self.evidence.shows(claim)
 
     def print_step(self, step: StepShown) -> None:
         """Prints that steps were shown, unless another engine showed that."""
         if step.k >= self.board.steps:
-            self.print_claim(step.claim, step.prefix)
+            self.print_claim(step.claim)
             self.board.steps = step.k + 1
 
     def print_open(self) -> None:
-        """Prints up to which step all were shown, unless that was the last line."""
+        """Prints that the question is undecided, and up to which step all were shown."""
         steps = self.board.steps
         line = self.source.up_to(steps - 1) if steps else self.source.nothing
-        if line != self.last or self.options.quiet:
-            self.print_line(line, True)
+        self.print_line(f"undecided: {line}", True)
 
     def print_report(self, status: int) -> None:
         """Prints what the AIGER report has of a question that ends with this status."""
         if self.trace:
-            print(self.source.of_file(self.trace).text(), end="", flush=True)
+            print(self.trace.text(), end="", flush=True)
             return
         places = "".join(self.source.places(self.problem.header))
         # Without a run that reaches one it isn't known.
@@ -115,48 +111,45 @@ class Printer:
 
     def print_run(self, traces: Sequence[Witness]) -> None:
         """Prints a run without what doesn't matter, and writes it."""
-        self.source.confirm(traces[0])
-        circuit, options = self.source.circuit(), self.options
+        source, options = self.source, self.options
+        circuit = source.circuit()
         signals = Signals(circuit)
-        self.print_line(self.source.found(signals, traces), True)
+        self.print_line(source.found(signals, list(map(source.of_file, traces))), True)
         self.status = UNSAFE
         is_written = options.aiger or options.keep or options.witness or options.vcd
         if options.quiet and not is_written:
             return
-        traces = self.smallest(traces)
-        trace = self.trace = traces[0]
+        trace = self.trace = source.of_file(self.smallest(traces))
         if options.vcd or not options.quiet:
-            for line in self.source.lines(signals, circuit, trace):
+            for line in source.lines_of_run(signals, circuit, trace):
                 self.print_line(line)
         if self.evidence:
-            self.evidence.shows(self.problem.claimed(trace))
+            source.keep_run(self.evidence, self.job.checker, trace)
         if options.witness:
-            write(options.witness, [self.source.of_file(trace).text().encode()])
+            write(options.witness, [trace.text().encode()])
         if options.vcd:
-            dump = self.source.dump(circuit, trace)
+            dump = source.dump(circuit, trace)
             write(options.vcd, (f"{line}\n".encode() for line in dump))
         self.print_alike(len(trace.steps) - 1)
 
     def holds(self, trace: Witness, traces: Sequence[Witness]) -> bool:
         """Returns whether a run shows all that some witnesses do."""
-        return all(self.job.checker.holds(self.problem.claimed(trace.showing(it.bad)))
-                   for it in traces)
+        return all(self.problem.holds(self.job.checker, trace.showing(it.bad)) for it in traces)
 
-    def smallest(self, traces: Sequence[Witness]) -> Sequence[Witness]:
-        """Returns witnesses of a run with x for what doesn't matter to what they show.
+    def smallest(self, traces: Sequence[Witness]) -> Witness:
+        """Returns the first of some witnesses of a run with x for what doesn't matter to these.
 
         Of a small run a simulation finds that, and it is checked."""
         if len(traces) > SHOWN:
-            return traces
+            return traces[0]
         circuit, opened = self.problem.circuit, self.problem.circuit.opened()
         seconds = min(SECONDS, self.board.left())
         if len(traces[0].steps) * len(circuit.gates) <= SMALL:
             bads = [trace.bad for trace in traces]
             found = simulated(circuit, traces[0], opened, bads, seconds)
             if self.holds(found, traces):
-                return [found.showing(trace.bad) for trace in traces]
-        found = minimal(traces[0], opened, lambda it: self.holds(it, traces), seconds)
-        return [found.showing(trace.bad) for trace in traces]
+                return found
+        return minimal(traces[0], opened, lambda it: self.holds(it, traces), seconds)
 
     def print_alike(self, k: int) -> None:
         """Prints that nothing differs at a step if registers start alike, and how to ask so.
@@ -170,39 +163,27 @@ class Printer:
         with contextlib.suppress(Fault):
             if alike := self.source.alike():
                 solver = self.job.solver().within(seconds)
-                has_solution, given = solver.ask(question, alike.asked)
+                has_solution, given = solver.ask(question, alike.subject)
                 claim = alike.unsolvable(question, given)
                 if not has_solution and self.job.checker.shows(claim):
                     self.print_claim(claim)
                     self.print_line(f"--starts {alike.way()} compares so")
 
-    # Certificates.
+    def certify(self, given: Sealed | int | str) -> None:
+        """Writes a certificate, if one is wanted, by an inductive machine or the k of a window.
 
-    def certify(self, answer: Induction | Certified | CountedRounds) -> None:
-        """Writes a certificate of an answer, if one is wanted."""
+        Or it says why there is none."""
         if not self.options.write_certificate:
             return
-        made = self.certificate_of(answer)
-        if isinstance(made, str):
-            self.tell_no_certificate(made)
-        else:
-            write(self.options.write_certificate, [made])
-
-    def certificate_of(self, answer: Induction | Certified | CountedRounds) -> bytes | str:
-        """Returns a certificate of an answer, or why there is none."""
+        if isinstance(given, str):
+            say(f"no certificate: {given}")
+            return
         from aigprove.circuits import certificates
 
         circuit = self.problem.circuit
-        if isinstance(answer, CountedRounds):
-            return "the answer is about rounds"
-        if isinstance(answer, Certified):
-            machine = self.job.checker.circuit(answer.machine, "the certificate")
-            return certificates.by_invariant(circuit, machine)
-        if answer.question.form:
-            return "the answer is about runs on which no state comes twice"
-        return certificates.by_window(circuit, answer.question.k)
-
-    def tell_no_certificate(self, why: str) -> None:
-        """Says why no certificate is written, if one is wanted."""
-        if self.options.write_certificate:
-            say(f"no certificate: {why}")
+        if isinstance(given, int):
+            made = certificates.by_window(circuit, given)
+        else:
+            machine = self.job.checker.circuit(given, "the certificate")
+            made = certificates.by_invariant(circuit, machine)
+        write(self.options.write_certificate, [made])

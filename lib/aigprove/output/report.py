@@ -9,6 +9,7 @@ from aigprove import VERSION
 from aigprove.circuits.witness import Witness
 from aigprove.output.messages import escaped
 from aigprove.output.signals import word
+from aigprove.processes.files import write
 
 if TYPE_CHECKING:
     import xml.etree.ElementTree as xml
@@ -171,12 +172,23 @@ class Report:
                             errors="0")
         kinds = [self.put_case(suite, answer) for answer in self.answers]
         suite.set("tests", str(len(self.answers)))
+        if not self.answers:
+            case = xml.SubElement(suite, "testcase", classname=escaped(self.path), name="reading",
+                                  time=f"{self.seconds:.3f}")
+            xml.SubElement(case, "error", message=escaped(self.line))
+            suite.attrib |= {"tests": "1", "errors": "1"}
         suite.set("failures", str(kinds.count("failure")))
         suite.set("skipped", str(kinds.count("skipped")))
         every = xml.Element("testsuites")
         every.append(suite)
         xml.indent(every)
         return str(xml.tostring(every, "unicode", xml_declaration=False)) + "\n"
+
+    def write(self, json_path: str | None, junit_path: str | None) -> None:
+        """Writes its text to these files, if they are wanted."""
+        for path, text in [(json_path, self.json), (junit_path, self.junit)]:
+            if path:
+                write(path, [text().encode()])
 
     def put_case(self, suite: xml.Element, answer: PropertyAnswer) -> str | None:
         """Puts an answer's case into the suite.

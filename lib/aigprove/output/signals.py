@@ -10,7 +10,7 @@ import itertools
 import re
 from collections.abc import Iterable, Iterator, Mapping, Sequence
 
-from aigprove.circuits.aiger import Circuit, decoded, encoded
+from aigprove.circuits.aiger import KINDS, Circuit, decoded, encoded
 from aigprove.circuits.witness import Witness
 from aigprove.output.waves import grouped, words
 
@@ -44,18 +44,23 @@ def number(bits: Sequence[str]) -> str:
     return f"{len(bits)}'h{int(''.join(reversed(bits)), 2):0{(len(bits) + 3) // 4}x}"
 
 
+def group(place: str) -> str:
+    """Returns the letter of the signals among which this one's name says which is meant."""
+    return "i" if place[0] == "l" else place[0]
+
+
 class Signals:
     """How the signals of a circuit are printed, each in its own way."""
 
     def __init__(self, circuit: Circuit) -> None:
         self.names = {f"{letter}{i}": decoded(name) for (letter, i), name in circuit.names.items()}
-        self.times = collections.Counter(name
-                                         for place, name in self.names.items() if place[0] in "il")
+        self.times = collections.Counter((group(place), name)
+                                         for place, name in self.names.items())
         if circuit.header.is_old:
             self.names.update({"b" + place[1:]: name
                                for place, name in self.names.items() if place[0] == "o"})
-        self.buses = {"i": self.find_buses("i", len(circuit.inputs)),
-                      "l": self.find_buses("l", len(circuit.latches))}
+        self.buses = {letter: self.find_buses(letter, len(getattr(circuit, KINDS[letter])))
+                      for letter in "ilo"}
         # The places of what isn't printed.
         self.hidden: set[str] = set()
 
@@ -67,16 +72,18 @@ class Signals:
                 if PLAIN.fullmatch(name) and self.is_single(name, letter, places)}
 
     def is_single(self, name: str, letter: str, places: Iterable[int]) -> bool:
-        """Returns whether no other input or latch has the name of a word or of one of its bits."""
-        return self.times[name] == 0 and all(self.times[self.names[f"{letter}{i}"]] == 1
-                                             for i in places)
+        """Returns whether no other such signal has the name of a word or of one of its bits."""
+        own = group(letter)
+        return self.times[own, name] == 0 and all(
+            self.times[own, self.names[f"{letter}{i}"]] == 1 for i in places)
 
     def signal(self, place: str) -> str:
-        """Returns how an input or a latch is printed."""
+        """Returns how an input, a latch or an output is printed."""
         name = self.names.get(place)
         if name is None:
             return place
-        return word(name) if self.times[name] == 1 else f"{place}:{quoted(name)}"
+        is_single = self.times[group(place), name] == 1
+        return word(name) if is_single else f"{place}:{quoted(name)}"
 
     def place(self, letter: str, position: int) -> str:
         """Returns how an output or a bad state property is printed."""
@@ -85,7 +92,7 @@ class Signals:
 
     def values(self, letter: str, values: Sequence[str],
                places: set[int] | None = None) -> list[str]:
-        """Returns the values of inputs or latches: of all, or of those at these places."""
+        """Returns the values of inputs, latches or outputs: of all, or of those at these places."""
         shown = []
         for name, own in grouped(len(values), self.buses[letter]):
             if f"{letter}{own[0]}" not in self.hidden and (places is None

@@ -25,9 +25,10 @@ from aigprove.processes.files import write
 from aigprove.processes.groups import BackgroundCall
 from aigprove.processes.scheduler import Stopped, limited, unlimited
 from aigprove.questions.assumptions import SECONDS, Assumptions
-from aigprove.questions.bad_states import BadStates, Covers, FileAbove
+from aigprove.questions.bad_states import BadStates, Covers
 from aigprove.questions.checker import Checker, header_of
-from aigprove.questions.justice import Justices, lives
+from aigprove.questions.justice import Justice, lives
+from aigprove.questions.properties import Properties
 from aigprove.questions.solver import Solver
 from aigprove.questions.target import Target
 
@@ -61,20 +62,20 @@ class Table:
                 source.keep(self.folder)
         self.parts = list(map(self.properties, self.sources))
         self.answers = [answer for part in self.parts for answer in part.answers]
-        header = header_of(self.sources[0].asked)
+        header = header_of(self.sources[0].subject.file)
         self.report = Report(self.first.path, self.answers, header.constraints)
 
-    def justices(self) -> list[Justices]:
+    def justices(self) -> list[Justice]:
         """Returns the justice properties of the file, and the liveness assertions of a design."""
         first = self.first.given
-        fair = [Justices(first)] if first.header().justice else []
+        fair = [Justice(first)] if first.header().justice else []
         if self.first.has_later({LIVE}):
             fair.append(lives(self.options, self.above, self.checker, first))
         return fair
 
-    def all_sources(self) -> Sequence[BadStates | Justices]:
+    def all_sources(self) -> Sequence[Properties]:
         """Returns what has properties."""
-        sources: list[BadStates | Justices] = [self.first] if self.first.answers() else []
+        sources: list[Properties] = [self.first.placed("")] if self.first.answers() else []
         if self.first.has_later({COVER}):
             sources.append(Covers(self.options, self.above, self.checker, self.first.given))
         sources += self.fair
@@ -89,9 +90,9 @@ class Table:
         warnings = [] if self.fair else list(self.first.warnings())
         return warnings + [line for source in asked or [self.first] for line in source.about()]
 
-    def properties(self, source: BadStates | Justices) -> SeparateProperties:
+    def properties(self, source: Properties) -> SeparateProperties:
         """Returns the properties of a source, which are asked about."""
-        if isinstance(source, Justices):
+        if isinstance(source, Justice):
             return SeparateProperties(self.options, self.checker, self.above, source, self.folder)
         return SharedProperties(self.options, self.checker, self.above, source, self.folder)
 
@@ -159,12 +160,13 @@ class Table:
                                 self.options.limit)
             found.keep(evidence)
             evidence.end()
+            self.folder.note_vacuous(found.line() if found.is_empty() else None)
         self.report.met, self.report.unmet, self.report.line = found.met, found.unmet, found.line()
 
     def assumptions(self) -> Assumptions:
         """Returns what is known of the assumptions."""
         solver = self.options.solver
-        found = Assumptions(FileAbove(self.sources[0], ABOVE), self.checker)
+        found = Assumptions(self.sources[0].placed(ABOVE), self.checker)
         try:
             if not solver.words:
                 raise Fault("cadical is not installed")
@@ -190,10 +192,8 @@ class Table:
 
     def write(self) -> None:
         """Writes what is wanted of the table."""
-        options, report = self.options, self.report
-        for name, text in [(options.json, report.json), (options.junit, report.junit)]:
-            if name:
-                write(name, [text().encode()])
+        options = self.options
+        self.report.write(options.json, options.junit)
         if options.witness:
             self.write_runs(options.witness, "witness", witness_of)
         if options.vcd:
@@ -211,7 +211,7 @@ class Table:
                     write(path, call(part.sources[answer.number], answer.trace, circuit))
 
 
-def commands(options: Options, sources: Iterable[BadStates | Justices],
+def commands(options: Options, sources: Iterable[Properties],
              answers: Iterable[PropertyAnswer]) -> Iterator[str]:
     """Yields a line for each property and for engines that go together.
 
@@ -235,11 +235,11 @@ def commands(options: Options, sources: Iterable[BadStates | Justices],
 
 def witness_of(source: Target, trace: Witness, _: Callable[[], Circuit]) -> Iterable[bytes]:
     """Returns the text of a run."""
-    return [source.of_file(trace).text().encode()]
+    return [trace.text().encode()]
 
 
 def dump_of(source: Target, trace: Witness, read: Callable[[], Circuit]) -> Iterable[bytes]:
     """Returns a value change dump, which yosys makes of a design, if it can."""
     circuit = read()
-    list(source.lines(Signals(circuit), circuit, trace))
+    list(source.lines_of_run(Signals(circuit), circuit, trace))
     return (f"{line}\n".encode() for line in source.dump(circuit, trace))

@@ -9,7 +9,7 @@ import os
 import resource
 import stat
 from collections.abc import Iterable, Iterator
-from typing import IO, TYPE_CHECKING, Protocol
+from typing import IO, TYPE_CHECKING
 
 from aigprove.circuits.aiger import LIMIT, Fault
 from aigprove.output.messages import plain, tell
@@ -35,7 +35,7 @@ SAID = 4096
 
 
 def path_of(program: str) -> str | None:
-    """Returns the path of a program, which may be found by its name, if it is there."""
+    """Returns the path of a program, which may be found by its name, if it exists."""
     # Python's own way takes a while to be imported.
     for folder in os.get_exec_path() if os.path.basename(program) == program else [""]:
         path = os.path.join(folder, program)
@@ -56,24 +56,22 @@ def in_memory() -> IO[bytes]:
     return open(os.memfd_create("printed"), "w+b")
 
 
-class Readable(Protocol):
-    """A stream of bytes."""
-
-    def read(self, size: int, /) -> bytes:
-        """Returns the next bytes, so many at most."""
-
-
 class Sealed:
-    """Bytes in memory, which nobody can write from now on, and the path that programs read."""
+    """Bytes in memory, which nobody can write from now on, and the path that programs read.
+
+    If a number is given, no more bytes are read from a stream."""
 
     descriptor: int | None = None
 
-    def __init__(self, data: bytes | Readable) -> None:
+    def __init__(self, data: bytes | IO[bytes] | io.BufferedIOBase, path: str = "",
+                 most: int | None = None) -> None:
         self.descriptor = os.memfd_create("sealed", os.MFD_ALLOW_SEALING)
         self.path = f"/dev/fd/{self.descriptor}"
         with open(self.descriptor, "wb", closefd=False) as out:
-            source: Readable = io.BytesIO(data) if isinstance(data, bytes) else data
+            source = io.BytesIO(data) if isinstance(data, bytes) else data
             while block := source.read(BLOCK):
+                if most is not None and out.tell() + len(block) > most:
+                    raise Fault(f"{path} has more than {most} bytes")
                 out.write(block)
         fcntl.fcntl(self.descriptor, fcntl.F_ADD_SEALS, SEALS)
 
@@ -102,7 +100,7 @@ class Sealed:
         return os.fstat(self.fileno()).st_size
 
     def line(self, most: int = 1 << 16) -> bytes:
-        """Returns the first line, or its first bytes, so many at most."""
+        """Returns the first line, or at most a number of its first bytes."""
         with open(self.path, "rb") as file:
             return file.readline(most)
 
@@ -114,21 +112,6 @@ class Sealed:
 Word = str | int | Sealed
 
 
-class Limited:
-    """A file of which no more than so many bytes are read."""
-
-    def __init__(self, file: Readable, path: str, most: int) -> None:
-        self.file, self.path, self.most, self.left = file, path, most, most
-
-    def read(self, size: int) -> bytes:
-        """Returns the next bytes, so many at most."""
-        data = self.file.read(size)
-        self.left -= len(data)
-        if self.left < 0:
-            raise Fault(f"{self.path} has more than {self.most} bytes")
-        return data
-
-
 def sealed(path: str, limit: int | None = None) -> Sealed:
     """Returns a sealed copy of a file, or of what gzip packed there: of a regular file or a pipe,
     with so many nodes at most."""
@@ -136,7 +119,7 @@ def sealed(path: str, limit: int | None = None) -> Sealed:
     if stat.S_ISCHR(mode) or stat.S_ISBLK(mode):
         raise Fault(f"{path} is a device")
     with open(path, "rb") as file:
-        found = Sealed(Limited(file, path, most))
+        found = Sealed(file, path, most)
     if found.line(2) == PACKED:
         found = unpacked(found, path, most)
     if not found.line():
@@ -152,13 +135,13 @@ def unpacked(packed: Sealed, path: str, most: int) -> Sealed:
 
     try:
         with gzip.open(packed.path) as file:
-            return Sealed(Limited(file, path, most))
+            return Sealed(file, path, most)
     except (gzip.BadGzipFile, EOFError, zlib.error) as why:
         raise Fault(f"{path}: {why}") from None
 
 
 def opened(path: str) -> IO[bytes]:
-    """Opens a file, unless it is a link; one that isn't regular is no reason to wait."""
+    """Opens a file, unless it is a link. It doesn't wait for a file that isn't regular."""
     flags = os.O_RDONLY | os.O_NOFOLLOW | os.O_NONBLOCK
     return open(path, "rb", opener=lambda it, _: os.open(it, flags))
 
@@ -182,7 +165,7 @@ def entries_of(path: str) -> Iterator[tuple[str, os.stat_result]]:
 class Folder:
     """A new folder for one run of an engine, and the limits on what it writes there.
 
-    The engine's program is told of no other folder."""
+    The engine's program knows no other folder."""
 
     def __init__(self, above: str) -> None:
         self.path, free = new_folder(above, "engine"), os.statvfs(above)
@@ -193,7 +176,7 @@ class Folder:
         return self
 
     def __exit__(self, *_: object) -> None:
-        """Removes it, but for folders that are in it, which are removed at the end."""
+        """Removes it, except for folders in it, which are removed at the end."""
         for path, _status in entries_of(self.path):
             with contextlib.suppress(OSError):
                 os.unlink(path)
@@ -220,7 +203,7 @@ class Folder:
     def limit_process(self, process: int) -> None:
         """Limits a process: no file of it grows past the folder's limit.
 
-        It is also the first to go when memory runs out."""
+        It is also the first that the system ends when memory runs out."""
         with contextlib.suppress(OSError):
             resource.prlimit(process, resource.RLIMIT_FSIZE, (self.limit, self.limit))
             resource.prlimit(process, resource.RLIMIT_CORE, (0, 0))
@@ -256,7 +239,7 @@ class Folder:
         return self.taken(name, what).data().decode("utf-8", "replace")
 
     def text_if_there(self, name: str) -> str:
-        """Returns the text of such a file; none if the program left none."""
+        """Returns the text of such a file, or an empty text if the program left no file."""
         try:
             return self.text(name, name)
         except Fault:

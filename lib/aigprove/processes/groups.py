@@ -10,7 +10,7 @@ import subprocess
 import threading
 import time
 from collections.abc import Callable, Collection, Iterator, Sequence
-from typing import TYPE_CHECKING, Any, Generic, NamedTuple, Protocol, TypeVar
+from typing import TYPE_CHECKING, Any, Generic, TypeVar
 
 from aigprove.processes.files import Sealed, Word
 
@@ -80,7 +80,7 @@ def end(process: int) -> None:
 
 
 def bury(kept: Collection[int] = ()) -> None:
-    """Ends all processes that this one is the parent of, but some, and then what these left."""
+    """Ends all processes whose parent is this one, except some, and then what these left."""
     while left := [process for process in children() if process not in kept]:
         for process in left:
             end(process)
@@ -102,25 +102,7 @@ def remove(path: str) -> None:
                            stdout=subprocess.DEVNULL, stderr=subprocess.DEVNULL)
 
 
-class Process(Protocol):
-    """A process that was started."""
-
-    pid: int
-
-    def wait(self) -> int:
-        """Returns its exit status, once it ends."""
-
-
-class PythonModule(NamedTuple):
-    """A module of this package, which runs as a program of its own with these words.
-
-    Such a program doesn't wait for what other threads compute."""
-
-    name: str
-    words: Sequence[str]
-
-
-Words = Sequence[Word] | PythonModule
+Words = Sequence[Word]
 
 
 def signal_group(group: int, number: int) -> None:
@@ -151,19 +133,13 @@ class Group:
         # The long files among its words.
         sealed = [word for word in words if isinstance(word, Sealed)]
         self.reads = [file for file in sealed if file.size() >= LONG]
-        self.process = self.begun(words, folder.path if folder else None, streams)
-        if folder:
-            folder.limit_process(self.process.pid)
-
-    def begun(self, words: Words, path: str | None, streams: dict[str, Any]) -> Process:
-        """Starts the program, in the folder at this path if there is one."""
-        if isinstance(words, PythonModule):
-            assert path and self.task.scheduler.server
-            return self.task.scheduler.server.begin(words.name, words.words, path)
+        path = folder.path if folder else None
         environment = {**os.environ, "TMPDIR": path} if path else None
         options: dict[str, Any] = {"stdin": subprocess.DEVNULL, **streams}
-        return subprocess.Popen(list(map(str, words)), cwd=path, env=environment,
-                                start_new_session=True, **options)
+        self.process = subprocess.Popen(list(map(str, words)), cwd=path, env=environment,
+                                        start_new_session=True, **options)
+        if folder:
+            folder.limit_process(self.process.pid)
 
     def reading(self) -> list[str]:
         """Says how far it has read each long file."""
@@ -185,7 +161,7 @@ class Group:
             os.waitid(os.P_PID, self.process.pid, os.WEXITED | os.WNOWAIT)
 
     def limit_memory(self, most: int) -> None:
-        """Lets it, and each process that it starts, have so many bytes of memory."""
+        """Limits its memory, and that of each process that it starts, to a number of bytes."""
         with contextlib.suppress(OSError):
             resource.prlimit(self.process.pid, resource.RLIMIT_AS, (most, most))
 
@@ -211,13 +187,13 @@ class Keeper:
         os.close(listening)
 
     def tell(self, number: int) -> None:
-        """Notes that a group began, by its number, or that it ended, by its negative."""
+        """Records that a group began, by its number, or that it ended, by the negative number."""
         with contextlib.suppress(BrokenPipeError):
             os.write(self.telling, b"%d\n" % number)
 
 
 def end_left(listening: int) -> None:
-    """Ends the groups that began and didn't end, once nobody can tell of any more."""
+    """Ends the groups that began and didn't end, once nobody can report further ones."""
     groups: set[int] = set()
     with open(listening, "rb") as lines:
         for number in map(int, lines):

@@ -9,15 +9,12 @@ import threading
 import time
 from collections.abc import Callable, Collection, Iterable, Iterator
 from types import FrameType
-from typing import TYPE_CHECKING, Any, TypeVar
+from typing import Any, TypeVar
 
 from aigprove.circuits.aiger import Fault
 from aigprove.output.messages import plain, unnamed
 from aigprove.processes.files import Folder, Sealed, in_memory
 from aigprove.processes.groups import Group, Keeper, Words, bury
-
-if TYPE_CHECKING:
-    from aigprove.processes.fork_server import ForkServer
 
 S = TypeVar("S")
 T = TypeVar("T")
@@ -34,7 +31,7 @@ LATE, AGAIN = 0.15, 0.01
 
 
 class Stopped(Exception):
-    """The answer is there, or the time is over."""
+    """That is because the answer is there, or the time is over."""
 
 
 class Task:
@@ -62,8 +59,8 @@ class Task:
     def output(self, words: Words, **streams: Any) -> tuple[int, str, str]:
         """Runs one of our own programs.
 
-        Returns its status, what it prints, and what it says on standard error, without the paths
-        and places of sealed files, which stand among its words."""
+        Returns its status, what it prints, and what it prints on standard error, without the
+        paths and places of sealed files among its arguments."""
         sealed = [word for word in words if isinstance(word, Sealed)]
         with in_memory() as out, in_memory() as said:
             options: dict[str, Any] = {"stdout": out, "stderr": said, **streams}
@@ -80,7 +77,7 @@ class Task:
             self.further = self.used
 
     def weight(self) -> float:
-        """Returns for how long its programs ran, as that counts when turns are given."""
+        """Returns how long its programs ran, as it counts when turns are given."""
         if self.is_answering:
             return 0
         is_behind = self.further is not None and self.used - self.further > LATELY
@@ -96,7 +93,7 @@ class Task:
 
     @contextlib.contextmanager
     def answering(self, others: Collection[Task]) -> Iterator[None]:
-        """Has others that look for the same wait a while, as its answer is checked.
+        """Lets others that look for the same answer wait a while, because its answer is checked.
 
         If the answer is wrong, the others go on."""
         self.scheduler.prefer(self, others)
@@ -140,15 +137,14 @@ class Scope:
 
 
 class Scheduler:
-    """All programs that run now, each of which has so many bytes of memory if a number is given.
+    """All programs that run now. If a number is given, each has at most that number of bytes of
+    memory.
 
     It forks the process that ends them if this one is killed, so there may be no threads yet."""
 
     def __init__(self, jobs: int, memory: int | None = None) -> None:
         self.jobs, self.memory = jobs, memory
         self.lock, self.is_stopped, self.keeper = threading.Lock(), False, Keeper()
-        # The process that forks others, if there is one.
-        self.server: ForkServer | None = None
         self.running: list[Group] = []
         self.waiting: list[Group] = []
         self.looked = time.monotonic()
@@ -233,7 +229,7 @@ class Scheduler:
             group.signal(signal.SIGCONT)
 
     def look(self, tick: float) -> None:
-        """Looks after turns and limits, unless that was done less than so many seconds ago."""
+        """Enforces turns and limits, unless that was done less than a number of seconds ago."""
         if time.monotonic() - self.looked > tick:
             self.looked = time.monotonic()
             with self.lock:
@@ -243,7 +239,7 @@ class Scheduler:
     def turn(self) -> None:
         """Gives the turn of the program whose task ran longest to the one whose task ran least.
 
-        That is done if the difference is a turn at least."""
+        It does so if the difference is at least one turn."""
         self.count()
         self.fill()
         longest = max(self.running, key=weight, default=None)
@@ -283,8 +279,8 @@ class Scheduler:
     def bury(self) -> None:
         """Ends the processes that programs left running."""
         with self.lock:
-            own = [self.keeper.process, *([self.server.process] if self.server else [])]
-            bury([*own, *(group.process.pid for group in self.running + self.waiting)])
+            own = [group.process.pid for group in self.running + self.waiting]
+            bury([self.keeper.process, *own])
 
     def stop(self) -> None:
         """Ends all programs; none is started from now on."""
@@ -296,7 +292,7 @@ class Scheduler:
 def end_late(_: int, frame: FrameType | None) -> None:
     """Has the main thread give up what it does.
 
-    What is raised while an object is dropped is passed over by Python: then it is raised later."""
+    Python ignores what is raised while an object is dropped. In this case it is raised later."""
     while frame:
         if frame.f_code.co_name == "__del__":
             signal.setitimer(signal.ITIMER_REAL, AGAIN)
@@ -319,7 +315,7 @@ def limited(deadline: float) -> Iterator[None]:
 
 @contextlib.contextmanager
 def unlimited() -> Iterator[None]:
-    """Lets the main thread end what is short, though its time may be over by then."""
+    """Lets the main thread finish something short, although its time may be over by then."""
     left, _ = signal.setitimer(signal.ITIMER_REAL, 0)
     try:
         yield
@@ -328,7 +324,7 @@ def unlimited() -> Iterator[None]:
 
 
 def for_each(items: Iterable[S], jobs: int, call: Callable[[S], T]) -> list[T]:
-    """Returns what a call returns for each of some items, so many at once.
+    """Returns what a call returns for each of some items, of which a number run at once.
 
     Calls whose work the main thread gave up aren't waited for."""
     # It takes a while to be imported.
@@ -345,5 +341,5 @@ def for_each(items: Iterable[S], jobs: int, call: Callable[[S], T]) -> list[T]:
 
 
 def weight(group: Group) -> float:
-    """Returns for how long the task of a program ran, as that counts."""
+    """Returns how long the task of a program ran, as it counts when turns are given."""
     return group.task.weight()

@@ -2,66 +2,76 @@
 step on; and with the fairness of a file, by a run without end."""
 from __future__ import annotations
 
+import os
 import time
+from collections.abc import Mapping, Sequence
 
-from aigprove.circuits.aiger import Circuit, Header
-from aigprove.circuits.witness import read_for
+from aigprove.circuits.witness import lasso_of
 from aigprove.output.evidence import Evidence
 from aigprove.processes.files import Sealed
-from aigprove.questions.checker import PAIRS, Checker, Claim, Question, header_of
-from aigprove.questions.justice import Justice, span
+from aigprove.questions.checker import PAIRS, Checker, Claim, Question, Subject, header_of
+from aigprove.questions.justice import span
 from aigprove.questions.solver import Solver
-from aigprove.questions.target import CLAIMS, Target
+from aigprove.questions.target import Target
 
-# How many seconds further steps are looked at, and up to which at most, if no line is about later
-# ones.
+# For how many seconds of processors further steps are looked at, so that the answer is the same
+# beside other work, and up to which at most, if no line is about later ones.
 SECONDS, MOST = 0.25, 1 << 12
-# The file's name among what is kept; for how many seconds lassos are looked for, and of how many
-# steps at most.
-ENDLESS = "endless.aag"
+MET, LOOPING = "possible.aag", "endless.aag"
 
 
-class Possible(Target):
-    """The file that is bad wherever a run that meets all constraints of another has come."""
+def used() -> float:
+    """Returns the seconds of processors that this process used, and those that it ran."""
+    return sum(os.times()[:4])
 
-    name = "possible.aag"
+
+class Runs:
+    """Runs of a file that meet what is assumed, by the word that asks aigcheck about these."""
+
+    word: str
 
     def __init__(self, source: Target, checker: Checker) -> None:
-        self.source, self.asked = source, checker.made("possible", source.asked)
+        self.assuming, self.checker = source.assuming(), checker
+        self.is_made = self.assuming is not source
+        self.subject = Subject(self.assuming.subject.file, [self.word])
+        # What aigcheck printed, and a file that was made for that.
+        self.claims: dict[str, Claim] = {}
+        self.makes: tuple[str, Sealed] | None = None
 
-    def circuit(self) -> Circuit:
-        return self.source.circuit()
+    def claim(self, line: str, command: str, words: Sequence[str],
+              files: Mapping[str, Sealed]) -> Claim:
+        """Returns what aigcheck says of them."""
+        name = self.assuming.name
+        return Claim(line, [self.word, command, name, *words], {name: self.subject.file, **files})
 
-    def unsolvable(self, question: Question, proof: Sealed) -> Claim:
-        """Returns that no run meets the constraints up to a step.
+    def keep(self, evidence: Evidence) -> None:
+        """Keeps what shows it."""
+        if self.claims and self.is_made:
+            self.assuming.keep(evidence)
+        if self.makes:
+            evidence.makes(*self.makes, "possible", self.assuming.name)
+        for claim in self.claims.values():
+            evidence.shows(claim)
 
-        The proof has another name than those about the file itself."""
-        line = CLAIMS[question.command][0].format(question.k)
-        return self.claim(line, "refuted", [str(question.k), "unmet"], {"unmet": proof})
 
-
-class Assumptions:
+class Assumptions(Runs):
     """Up to which step the constraints of a file were seen to be met, and from which they can't.
 
-    Either may be unknown. The claims show it."""
+    Either may be unknown."""
 
-    def __init__(self, source: Target, checker: Checker) -> None:
-        self.source, self.checker = source, checker
-        self.met: int | None = None
-        self.unmet: int | None = None
-        self.claims: dict[str, Claim] = {}
+    word = "--possible"
+    met: int | None = None
+    unmet: int | None = None
 
     def look(self, solver: Solver, least: int, deadline: float) -> None:
         """Looks at steps 1, 2, 4 and so on, for some seconds, and at least up to this step.
 
         If the constraints can't be met at one, the first such is found by halves."""
-        self.assuming, until = self.source.assuming(), time.monotonic() + SECONDS
-        self.possible = Possible(self.assuming, self.checker)
-        step = max(min(least, MOST), 1)
+        until, step = used() + SECONDS, max(min(least, MOST), 1)
         while self.unmet is None and time.monotonic() < deadline:
             self.ask(solver, step)
             step *= 2
-            if time.monotonic() > until or step > MOST:
+            if used() > until or step > MOST:
                 break
         while self.unmet is not None and self.unmet > (below := self.last_met()) + 1:
             self.ask(solver, (below + self.unmet) // 2)
@@ -73,34 +83,22 @@ class Assumptions:
     def ask(self, solver: Solver, step: int) -> None:
         """Asks whether a run meets the constraints up to a step, and has that checked."""
         question = Question("query", step)
-        can_be_met, given = solver.ask(question, self.possible.asked)
+        can_be_met, given = solver.ask(question, self.subject)
         if can_be_met:
-            data = self.checker.witness(self.possible.asked, question, given)
-            trace = read_for(data, header_of(self.possible.asked))
-            claim = self.possible.run(trace, Sealed(data))
+            made = Subject(self.checker.made("possible", self.subject.file))
+            run = Sealed(self.checker.witness(made, question, given))
+            self.makes = (MET, made.file)
+            claim = Claim(f"b0 at step {step}", ["run", MET, "met"], {MET: made.file, "met": run})
         else:
-            claim = self.possible.unsolvable(question, given)
+            claim = self.claim(f"no run of more than {step} steps meets the constraints", "refuted",
+                               [str(step), "unmet"], {"unmet": given})
         self.checker.check(claim)
         self.claims["met" if can_be_met else "unmet"] = claim
-        if can_be_met:
-            self.met = step
-        else:
-            self.unmet = step
+        self.met, self.unmet = (step, self.unmet) if can_be_met else (self.met, step)
 
     def is_empty(self) -> bool:
         """Returns whether no run meets the constraints from a step on."""
         return self.unmet is not None
-
-    def keep(self, evidence: Evidence) -> None:
-        """Keeps what shows it."""
-        if self.claims:
-            if self.assuming is not self.source:
-                self.assuming.keep(evidence)
-            possible = self.possible
-            evidence.makes(possible.name, possible.asked, "possible", self.assuming.name)
-        for claim in self.claims.values():
-            evidence.shows(claim)
-        evidence.says(self.line())
 
     def line(self) -> str:
         """Returns the line that says so."""
@@ -111,29 +109,17 @@ class Assumptions:
         return f"the assumptions can be met up to step {self.met}"
 
 
-class Endless:
-    """The steps of a loop that meets the fairness of a file, or that there is none.
+class Endless(Runs):
+    """The steps of a loop that meets the fairness of a file, or that there is none."""
 
-    The claim shows it."""
-
-    def __init__(self, justice: Target, checker: Checker) -> None:
-        assert isinstance(justice, Justice)
-        circuit = checker.circuit(justice.given.file, "FILE")
-        header = circuit.header
-        self.checker, self.number, self.latches = checker, header.justice, header.latches
-        self.loop: tuple[int, int] | None = None
-        self.is_unmet = False
-        self.claim: Claim | None = None
-        # One more justice property, of no literals.
-        circuit.justice.append([])
-        header.count(circuit, header.counts[0])
-        self.file = Sealed(circuit.text())
-        self.made = checker.made("live", self.file, self.number)
+    word = "--endless"
+    loop: tuple[int, int] | None = None
 
     def look(self, solver: Solver, _: int, deadline: float) -> None:
         """Looks at lassos of at most 2, 3, 5 steps and so on, for some seconds."""
-        until, k = min(deadline, time.monotonic() + SECONDS), 1
-        while self.claim is None and k <= MOST and (k == 1 or time.monotonic() < until):
+        until, k = used() + SECONDS, 1
+        while not self.claims and k <= MOST and (
+                k == 1 or used() < until and time.monotonic() < deadline):
             self.ask(solver, Question("bounded", k))
             k *= 2
 
@@ -141,44 +127,45 @@ class Endless:
         """Asks for a lasso of so many steps, or for a proof that there is none of more.
 
         What is found is checked."""
-        has_lasso, given = solver.ask(question, self.made)
-        header = header_of(self.made)
+        has_lasso, given = solver.ask(question, self.subject)
+        header = header_of(self.subject.file)
         if has_lasso:
-            self.take_lasso(header, self.checker.witness(self.made, question, given))
+            self.take_lasso(question, given)
             return
+        # Each latch is saved, and each literal of fairness was seen to be true or wasn't.
+        latches = 2 * header.latches + header.fairness + 1
         window = Question("window", question.k, ("distinct",))
-        if header.latches * (question.k + 2) ** 2 > PAIRS:
+        if latches * (question.k + 2) ** 2 > PAIRS:
             return
-        has_window, step = solver.ask(window, self.made)
+        has_window, step = solver.ask(window, self.subject)
         if not has_window:
-            words = ["--justice", str(self.number), "safe", ENDLESS, "to", str(question.k),
-                     "endless-base", "endless-step", "distinct"]
-            files = {ENDLESS: self.file, "endless-base": given, "endless-step": step}
-            claim = Claim(f"no fair run of j{self.number}", words, files)
+            words = ["to", str(question.k), "endless-base", "endless-step", "distinct"]
+            claim = self.claim("no run without end meets the constraints and fairness", "safe",
+                               words, {"endless-base": given, "endless-step": step})
             self.checker.check(claim)
-            self.claim, self.is_unmet = claim, True
+            self.claims["unmet"] = claim
 
-    def take_lasso(self, header: Header, data: bytes) -> None:
-        """Takes the witness of a lasso, in whose line aigcheck says where its loop is."""
-        trace = read_for(data, header)
-        lasso = Sealed(trace.lasso(self.number, self.latches).text().encode())
-        line, self.loop = self.checker.lasso(self.file, lasso)
-        files = {ENDLESS: self.file, "endless": lasso}
-        self.claim = Claim(line, ["run", *files], files)
+    def take_lasso(self, question: Question, given: Sealed) -> None:
+        """Takes a solution that is a lasso, of the file with a justice property of no literals."""
+        circuit = self.checker.circuit(self.subject.file, "FILE")
+        number, circuit.justice = len(circuit.justice), [*circuit.justice, []]
+        circuit.header.count(circuit, circuit.header.counts[0])
+        made = Sealed(circuit.text())
+        machine = Subject(self.checker.made("live", made, number))
+        data = self.checker.witness(machine, question, given)
+        lasso = lasso_of(data, len(circuit.latches))._replace(bad=number)
+        run = Sealed(lasso.text().encode())
+        line, self.loop = self.checker.lasso(Subject(made), run)
+        files = {LOOPING: made, "endless": run}
+        self.claims["met"] = Claim(line, ["run", *files], files)
 
     def is_empty(self) -> bool:
         """Returns whether no run without end meets the constraints and the fairness."""
-        return self.is_unmet
-
-    def keep(self, evidence: Evidence) -> None:
-        """Keeps what shows it."""
-        if self.claim:
-            evidence.shows(self.claim)
-        evidence.says(self.line())
+        return "unmet" in self.claims
 
     def line(self) -> str:
         """Returns the line that says so."""
-        if self.is_unmet:
+        if self.is_empty():
             return "the assumptions can't be met without end: the answer is empty"
         if self.loop is None:
             return "the assumptions were never seen to be met without end"

@@ -1,5 +1,4 @@
-"""One file, whose bad states are asked about, the covers of a design, and one property alone, of
-which aigedit makes a file."""
+"""One file, whose bad states are asked about, and the covers of a design."""
 from __future__ import annotations
 
 import re
@@ -12,45 +11,75 @@ from aigprove.designs.front_ends import BLIF, COVER, LIVE
 from aigprove.options.options import DesignOptions, Options
 from aigprove.output.signals import Signals, word
 from aigprove.processes.files import Sealed
-from aigprove.questions.checker import Checker
+from aigprove.questions.checker import Checker, Claim, Subject
 from aigprove.questions.input_file import InputFile
-from aigprove.questions.target import Target
+from aigprove.questions.properties import Properties
+from aigprove.questions.target import Statements
 
 if TYPE_CHECKING:
     from aigprove.designs.replay import Replay
     from aigprove.designs.verilog import Design
     from aigprove.output.evidence import Evidence
-    from aigprove.output.report import PropertyAnswer
-    from aigprove.questions.justice import Justices
 
 # How many registers that are uninitialised are named.
 NAMED_OPEN = 8
+# What aigcheck prints about the outputs of a file of the time before bad states, and the name of
+# the file that aigedit makes of one.
+OF_OUTPUTS = Statements("no output is true at step {k}", "no output is true up to step {k}",
+                        "no output is true at any step, if none up to step {k}",
+                        "no output is true at any step")
+BADS = "bads.aag"
 
 
-class BadStates(Target):
+class BadStates(Properties):
     """One file, whose bad states are asked about."""
 
-    # The letter of the numbers of its properties, what all and one of them are called among what
-    # is kept, the file's name there, and the option that asks about one.
     letter, stems, stem, option = "b", ("properties", "property"), "file", "property"
+    command = "property"
+    # Whether outputs are asked about as such, and not in a file in which they are bad states.
+    is_by_outputs = False
 
     def __init__(self, options: Options, above: str, checker: Checker,
                  design: DesignOptions | None = None,
                  given: Sequence[Sealed] | None = None) -> None:
         design = design or options.design
-        self.given = InputFile(options.files, design, above, checker, self.stem, given)
-        self.path, self.name, self.asked = options.files[0], self.given.name, self.given.file
+        super().__init__(InputFile(options.files, design, above, checker, self.stem, given))
         # The outputs of a design with covers alone are no bad states.
         is_blif, own = BLIF in self.given.kinds, self.given.design
         self.is_old = is_old(self.given.line) and (not own or is_blif)
         if own and not is_blif and not (own.assertions or self.has_later(design.later)):
             raise Fault(f"{self.path}: {own.top} has no assertion")
+        self.is_by_outputs = self.is_old
         if self.is_old:
-            self.name, self.asked = "bads.aag", checker.made("bads", self.asked)
+            self.subject, self.lines = Subject(self.given.file, ["--outputs"], ["bads"]), OF_OUTPUTS
         self.replay: Replay | None = None
 
-    def circuit(self) -> Circuit:
-        return self.given.circuit()
+    def placed(self, above: str) -> BadStates:
+        """Returns the same of a file that is kept in this folder.
+
+        One in which the outputs are bad states is made first: each of them may be asked about by
+        itself."""
+        made = super().placed(above)
+        if self.is_old:
+            made.is_by_outputs, made.name = False, above + BADS
+            made.subject, made.lines = Subject(self.given.bads), Statements()
+        return made
+
+    def run(self, checker: Checker, trace: Witness) -> Claim:
+        own = super().run if not self.is_by_outputs else self.placed("").run
+        return own(checker, trace)
+
+    def keep_run(self, evidence: Evidence, checker: Checker, trace: Witness) -> None:
+        if self.is_by_outputs:
+            self.keep_bads(evidence)
+        super().keep_run(evidence, checker, trace)
+
+    def keep_bads(self, evidence: Evidence) -> None:
+        """Keeps the file in which the outputs are bad states, and how it is made."""
+        evidence.makes(BADS, self.given.bads, "bads", self.given.name)
+
+    def of_file(self, trace: Witness) -> Witness:
+        return trace.showing(self.number) if self.is_one else trace
 
     def warnings(self) -> Iterator[str]:
         return self.given.warnings()
@@ -61,27 +90,20 @@ class BadStates(Target):
         return design is not None and (COVER in kinds and design.has_covers
                                        or LIVE in kinds and design.has_lives)
 
-    def answers(self) -> list[PropertyAnswer]:
-        """Returns its properties, which have no answers yet.
-
-        Those of a design have the names and the places of its assertions."""
-        from aigprove.output.report import PropertyAnswer
-
+    def counted(self) -> tuple[str, int]:
         header = self.given.header()
-        of = ("o", header.outputs) if self.is_old else ("b", header.bads)
-        named = self.given.properties(*of)
-        return [PropertyAnswer(self.letter, i, *it) for i, it in enumerate(named)]
+        return ("o", header.outputs) if self.is_old else ("b", header.bads)
 
     def about(self) -> Iterator[str]:
-        yield from self.given.about()
+        yield from super().about()
         if self.is_old:
             yield "the outputs are taken for bad state properties: " \
                 "the file is of a time before these"
 
-    def lines(self, signals: Signals, circuit: Circuit, trace: Witness) -> Iterator[str]:
+    def lines_of_run(self, signals: Signals, circuit: Circuit, trace: Witness) -> Iterator[str]:
         design = self.given.design
         if design is None or not design.assertions:
-            return super().lines(signals, circuit, trace)
+            return super().lines_of_run(signals, circuit, trace)
         return self.lines_of_design(design, signals, circuit, trace)
 
     def lines_of_design(self, design: Design, signals: Signals, circuit: Circuit,
@@ -94,7 +116,7 @@ class BadStates(Target):
         try:
             replay = self.replay = Replay(design, circuit, trace)
         except Fault as why:
-            yield from super().lines(signals, circuit, trace)
+            yield from super().lines_of_run(signals, circuit, trace)
             yield from self.open_registers(design, circuit, trace)
             yield from [f"{own} fails", f"yosys doesn't run it: {why}"]
         else:
@@ -126,9 +148,9 @@ class BadStates(Target):
             yield f"open at the start: {listed}{others}{hint}"
 
     def keep(self, evidence: Evidence) -> None:
-        self.given.keep(evidence)
-        if self.is_old:
-            evidence.makes(self.name, self.asked, "bads", self.given.name)
+        super().keep(evidence)
+        if self.is_old and not self.is_by_outputs and not self.above:
+            self.keep_bads(evidence)
 
 
 class Covers(BadStates):
@@ -160,66 +182,3 @@ def is_old(line: bytes) -> bool:
     except Fault:
         return False
     return header.is_old and header.outputs > 0
-
-
-class Property(Target):
-    """A property of a file, by its number there.
-
-    The file that aigedit makes has it as its bad literal 0, and the same inputs and latches, so
-    that a run of one is a run of the other."""
-
-    # By which command of aigedit the file is made.
-    command = "property"
-
-    def __init__(self, whole: BadStates, number: int, above: str = "") -> None:
-        # In which folder the whole file is kept, if it isn't kept with this one.
-        self.whole, self.number, self.above = whole, number, above
-        self.path, self.name = whole.path, f"property-{number}.aag"
-        self.stem = f"{whole.stems[1]}-{number}"
-
-    def make(self) -> Sealed:
-        return self.whole.given.checker.made(self.command, self.whole.asked, self.number)
-
-    def circuit(self) -> Circuit:
-        return self.whole.circuit()
-
-    def warnings(self) -> Iterator[str]:
-        return self.whole.warnings()
-
-    def places(self, header: Header) -> list[str]:
-        return [f"b{self.number}"]
-
-    def of_file(self, trace: Witness) -> Witness:
-        return trace.showing(self.number)
-
-    def about(self) -> Iterator[str]:
-        return self.whole.about()
-
-    def found(self, signals: Signals, traces: Sequence[Witness]) -> str:
-        return self.whole.found(signals, list(map(self.of_file, traces)))
-
-    def lines(self, signals: Signals, circuit: Circuit, trace: Witness) -> Iterator[str]:
-        return self.whole.lines(signals, circuit, self.of_file(trace))
-
-    def dump(self, circuit: Circuit, trace: Witness) -> Iterable[str]:
-        return self.whole.dump(circuit, self.of_file(trace))
-
-    def keep(self, evidence: Evidence) -> None:
-        if not self.above:
-            self.whole.keep(evidence)
-        words = [self.command, self.above + self.whole.name, str(self.number)]
-        evidence.makes(self.name, self.asked, *words)
-
-
-class FileAbove(Target):
-    """A file that stands in a folder above what is kept of it."""
-
-    def __init__(self, whole: BadStates | Justices, folder: str) -> None:
-        self.whole, self.path, self.name = whole, whole.path, folder + whole.name
-        self.stem, self.asked = whole.stems[0], whole.asked
-
-    def circuit(self) -> Circuit:
-        return self.whole.circuit()
-
-    def keep(self, evidence: Evidence) -> None:
-        """Keeps nothing: the file is kept once, above."""

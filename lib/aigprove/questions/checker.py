@@ -6,7 +6,7 @@ from __future__ import annotations
 
 import re
 from collections.abc import Mapping, Sequence
-from typing import IO, NamedTuple, Protocol
+from typing import IO, NamedTuple
 
 from aigprove.circuits.aiger import LIMIT, Circuit, Fault, Header, Lines
 from aigprove.output.messages import ending
@@ -15,6 +15,8 @@ from aigprove.processes.scheduler import Task
 
 # How the first line of what aigcheck says ends where a proof doesn't follow.
 STEP = "proof step does not follow"
+# How what a program says of a file ends that has more nodes than the limit.
+LARGE = "too many variables"
 # How many variables windows without repeated states may have to tell states apart.
 PAIRS = 1 << 22
 # How aigedit says that two files have other signals, and that a reset is no constant and not the
@@ -29,27 +31,25 @@ def header_of(file: Sealed) -> Header:
 
 
 class Claim(NamedTuple):
-    """A line that aigcheck prints for these words, in which names stand for these files."""
+    """A line that aigcheck prints for these words, in which names stand for these files.
+
+    What aigprove prints in its place is given if it is another line."""
 
     line: str
     words: Sequence[str]
     files: Mapping[str, Sealed]
+    told: str = ""
 
 
-class Query(Protocol):
-    """Clauses that our programs print: the command, its words behind FILE, and a name."""
+class Subject(NamedTuple):
+    """A circuit of a file, about which aigcheck is asked.
 
-    @property
-    def command(self) -> str:
-        """The command of aigcheck that prints the clauses."""
+    Words before a command choose it. If it isn't the file's own, aigedit prints it by other words,
+    of which the first is the command."""
 
-    @property
-    def name(self) -> str:
-        """The name of its proof among what is kept."""
-
-    @property
-    def words(self) -> Sequence[Word]:
-        """What stands behind the command and FILE."""
+    file: Sealed
+    words: Sequence[str] = ()
+    edit: Sequence[str] = ()
 
 
 class Question(NamedTuple):
@@ -64,12 +64,31 @@ class Question(NamedTuple):
 
     @property
     def name(self) -> str:
+        """The name of its proof among what is kept."""
         command = {"query": "step", "bounded": "steps", "window": "window"}[self.command]
         return "-".join([command, str(self.k), *self.form])
 
     @property
     def words(self) -> Sequence[Word]:
+        """What stands behind the command and FILE."""
         return [self.k, *self.form]
+
+
+class Condition(NamedTuple):
+    """Clauses that ask whether a witness circuit breaks a condition, by its name."""
+
+    witness: Sealed
+    name: str
+    command: str = "obligations"
+
+    @property
+    def words(self) -> Sequence[Word]:
+        """What stands behind the command and FILE."""
+        return [self.witness, self.name]
+
+
+# Clauses that our programs print.
+Query = Question | Condition
 
 
 class Checker(NamedTuple):
@@ -105,7 +124,8 @@ class Checker(NamedTuple):
         """Has a program print into a file; it has to end with status 0."""
         status, _, said = self.task.output(words, stdout=out)
         if status != 0:
-            raise Fault(said.partition("\n")[0] or f"{words[0]} {ending(status)}")
+            hint = "; --limit N takes circuits of so many nodes" * said.rstrip("\n").endswith(LARGE)
+            raise Fault((said.partition("\n")[0] or f"{words[0]} {ending(status)}") + hint)
 
     def printed(self, *words: Word) -> Sealed:
         """Returns what a program prints, sealed."""
@@ -122,9 +142,10 @@ class Checker(NamedTuple):
         """Returns what aigedit prints, sealed."""
         return self.printed(*self.aigedit, *words)
 
-    def lasso(self, file: Sealed, run: Sealed) -> tuple[str, tuple[int, int]]:
+    def lasso(self, subject: Subject, run: Sealed) -> tuple[str, tuple[int, int]]:
         """Returns what aigcheck prints of a lasso, and the first and the last step of its loop."""
-        line = self.printed(*self.aigcheck, "run", file, run).data().decode().rstrip("\n")
+        called: list[Word] = [*self.aigcheck, *subject.words, "run", subject.file, run]
+        line = self.printed(*called).data().decode().rstrip("\n")
         found = LOOP.search(line)
         if not found:
             raise Fault(f"aigcheck printed {line!r}")
@@ -146,11 +167,17 @@ class Checker(NamedTuple):
         """Returns what a file says that a program took, and that faults call so."""
         return Circuit(Lines(file.data(), what), self.limit)
 
-    def print_question(self, question: Query, file: Sealed, out: IO[bytes]) -> None:
+    def machine(self, subject: Subject) -> Sealed:
+        """Returns a file whose own circuit is this one: for engines, and no evidence."""
+        command, *words = subject.edit or [""]
+        return self.made(command, subject.file, *words) if command else subject.file
+
+    def print_question(self, question: Query, subject: Subject, out: IO[bytes]) -> None:
         """Prints the clauses of a question into a file."""
-        is_query = question.command == "query"
-        words = self.queries if is_query else [*self.aigcheck, question.command]
-        self.print([*words, file, *question.words], out)
+        words = [*self.aigcheck, *subject.words, question.command]
+        if question.command == "query":
+            words = [*words[:-1], "clauses"] if subject.words else [*self.queries]
+        self.print([*words, subject.file, *question.words], out)
 
     def refusal(self, claim: Claim) -> str | None:
         """Returns why aigcheck doesn't print the line of a claim, if a proof doesn't follow.
@@ -171,20 +198,13 @@ class Checker(NamedTuple):
         Anything but a proof that doesn't follow is a fault."""
         return self.refusal(claim) is None
 
-    def holds(self, claim: Claim) -> bool:
-        """Returns whether aigcheck prints the line of a claim about a run."""
-        try:
-            return self.shows(claim)
-        except Fault:
-            return False
-
     def check(self, claim: Claim) -> None:
         """Has aigcheck print the line of a claim."""
         if why := self.refusal(claim):
             raise Fault(why)
 
-    def witness(self, file: Sealed, question: Question, solution: Sealed) -> bytes:
+    def witness(self, subject: Subject, question: Question, solution: Sealed) -> bytes:
         """Returns the witness that a solution of a question is."""
         to = ["to"] if question.command == "bounded" else []
-        words: list[Word] = [*self.aigcheck, "witness", file, *to, question.k, solution]
-        return self.printed(*words).data()
+        called: list[Word] = [*self.aigcheck, *subject.words, "witness", subject.file]
+        return self.printed(*called, *to, question.k, solution).data()

@@ -2,29 +2,16 @@
 implies the file's. Which of its inputs and latches stand for the file's its names say, or else
 their order. What is asked about them is aigcheck's; names are told alone."""
 import re
-from collections.abc import Iterable, Sequence
-from typing import NamedTuple
+from collections.abc import Iterable
 
 from aigprove.circuits.aiger import Circuit, Gates
 from aigprove.circuits.certificates import STANDS
-from aigprove.processes.files import Sealed, Word
-from aigprove.questions.checker import Query, Question
+from aigprove.processes.files import Sealed
+from aigprove.questions.checker import Condition, Query, Question
 
 CONDITIONS = ["reset", "transition", "property", "base", "step"]
 # A line of a name that says for which literal of the file a leaf stands, and one that has a number.
 LINE, NAME = re.compile(rb"^[il][0-9]+ " + STANDS, re.M), re.compile(STANDS + rb"([0-9]+)")
-
-
-class Condition(NamedTuple):
-    """Clauses that ask whether a witness circuit breaks a condition."""
-
-    witness: Sealed
-    name: str
-    command: str = "obligations"
-
-    @property
-    def words(self) -> Sequence[Word]:
-        return [self.witness, self.name]
 
 
 def of_both(witness: Sealed) -> dict[str, Query]:

@@ -1,6 +1,9 @@
 """Files as they were named: their bytes are read once, into memory that nobody can write."""
 from __future__ import annotations
 
+import errno
+import functools
+import re
 from collections.abc import Iterator, Sequence
 from typing import TYPE_CHECKING
 
@@ -17,10 +20,14 @@ if TYPE_CHECKING:
     from aigprove.designs.verilog import Design
     from aigprove.output.evidence import Evidence
 
+# How names of files of designs end.
+ENDS = ", ".join(FRONTS)
+# How Verilog calls the last value of a signal, or one before, and the index of a bit.
+PAST, INDEX = re.compile(rb"\$past\((.*?)(?:,([0-9]+))?\)"), re.compile(rb"(\[[0-9]+\])?\Z")
 # Options that are for designs alone, or for those that certain front ends read.
 OF_DESIGNS: dict[str, list[str] | None] = {
     **dict.fromkeys(["top", "reset", "parameter", "black_box", "multiclock"]),
-    **dict.fromkeys(["define", "include"], [VERILOG]),
+    **dict.fromkeys(["define", "include", "stops"], [VERILOG]),
 }
 
 
@@ -39,6 +46,9 @@ class InputFile:
         self.kinds = [kind_of(path, file.line()) for path, file in zip(paths, self.given)]
         self.check_kinds(paths, options)
         self.design: Design | None = None
+        if not self.kinds[0] and not self.given[0].line().startswith(b"a"):
+            raise Fault(f"{paths[0]} is no file in AIGER form, which begins with aag or aig, nor "
+                        f"one of a design, whose name ends with {ENDS}")
         if self.kinds[0]:
             files = [File(path, file.data()) for path, file in zip(paths, self.given)]
             try:
@@ -52,7 +62,7 @@ class InputFile:
         """Prints what yosys warns of in a design, and what of it isn't asked about, nor later."""
         if self.design and not options.is_quiet:
             left_out = self.design.left_out
-            for line in [*self.design.yosys.warnings,
+            for line in [*self.design.yosys.warnings, *self.design.noticed,
                          *(line for kind, line in left_out if kind not in options.later)]:
                 say(line)
 
@@ -65,8 +75,7 @@ class InputFile:
         """Refuses a file among several that is of no design, and options for designs alone."""
         for path, kind in zip(paths, self.kinds):
             if not kind and len(paths) > 1:
-                ends = ", ".join(FRONTS)
-                raise Fault(f"{path} is no file of a design (those end with {ends})")
+                raise Fault(f"{path} is no file of a design (those end with {ENDS})")
         for option, of in OF_DESIGNS.items():
             given, known = getattr(options, option), of or FRONTS.values()
             if given and not any(kind and FRONTS[kind] in known for kind in self.kinds):
@@ -78,6 +87,20 @@ class InputFile:
         """Returns the header of the file in AIGER form."""
         return Header(Lines(self.line, "FILE"))
 
+    @functools.cached_property
+    def bads(self) -> Sealed:
+        """The file that aigedit makes of one of the time before bad states, which its outputs
+        are."""
+        return self.checker.made("bads", self.file)
+
+    def has_justice(self) -> bool:
+        """Returns whether a file that is no design has a justice property. Of one whose header
+        isn't read that is told by what asks about it."""
+        try:
+            return not self.design and self.header().justice > 0
+        except Fault:
+            return False
+
     def circuit(self) -> Circuit:
         """Returns the circuit that was given, with all its names.
 
@@ -85,6 +108,7 @@ class InputFile:
         circuit = self.checker.circuit(self.file, "FILE")
         if self.design:
             circuit.names = {place: outermost(name) for place, name in circuit.names.items()}
+            name_last_values(circuit)
         return circuit
 
     def symbols(self) -> Circuit | Symbols:
@@ -145,8 +169,14 @@ def design_of(files: Sequence[File], options: DesignOptions, folder: str, task: 
     """Returns the design that yosys reads from files."""
     # The patterns that this module has take long to compile: it is imported if there is a design.
     from aigprove.designs import verilog
+    from aigprove.designs.yosys import full
 
-    return verilog.Design(files, options, folder, task)
+    try:
+        return verilog.Design(files, options, folder, task)
+    except OSError as why:
+        if why.errno != errno.ENOSPC:
+            raise
+        raise full(folder) from None
 
 
 def counted(number: int, one: str, many: str | None = None) -> list[str]:
@@ -157,6 +187,24 @@ def counted(number: int, one: str, many: str | None = None) -> list[str]:
 def outermost(name: bytes) -> bytes:
     """Returns the name of fewest modules of a signal with several, and of these the shortest."""
     return min(name.split(b" "), key=lambda it: (it.count(b"."), len(it), it))
+
+
+def name_last_values(circuit: Circuit) -> None:
+    """Names registers without a name, as yosys makes of `$past(a)`, by what they held a step
+    before, if that is a signal with a name."""
+    known = {literal: name for letter, i, literal in circuit.signals()
+             if letter in "il" and (name := circuit.names.get((letter, i)))}
+    left = {i for i, latch in enumerate(circuit.latches) if latch not in known}
+    while new := {i: known[circuit.nexts[i]] for i in left if circuit.nexts[i] in known}:
+        for i, name in new.items():
+            circuit.names["l", i] = known[circuit.latches[i]] = last_value(name)
+        left -= new.keys()
+
+
+def last_value(name: bytes) -> bytes:
+    """Returns how Verilog calls the last value of a signal, or of a bit of one."""
+    longer = PAST.sub(lambda it: b"$past(%s,%d)" % (it[1], int(it[2] or 1) + 1), name)
+    return longer if longer != name else b"$past(" + INDEX.sub(rb")\1", name, count=1)
 
 
 def form(line: bytes) -> str:

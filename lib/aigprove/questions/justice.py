@@ -1,110 +1,71 @@
-"""A justice property of a file, or a liveness assertion of a design.
+"""The justice properties of a file, or the liveness assertions of a design.
 
-What is asked about is the file that aigedit makes of it, whose bad state ends a fair lasso. A
-liveness assertion of a design is a justice property of a file of its own: a fair run on which it
-fails."""
-from collections.abc import Iterable, Iterator, Mapping, Sequence
+Engines are given the file that aigedit makes of one, whose bad state ends a fair lasso. A liveness
+assertion of a design is a justice property of a file of its own: a fair run on which it fails."""
+from __future__ import annotations
 
-from aigprove.circuits.aiger import Circuit, Fault, Header
+import copy
+from collections.abc import Iterable, Iterator, Sequence
+from typing import TYPE_CHECKING
+
+from aigprove.circuits.aiger import Circuit, Fault
 from aigprove.circuits.witness import Witness
 from aigprove.designs.front_ends import FAIR, LIVE
-from aigprove.options.options import Options
 from aigprove.output import waves
-from aigprove.output.evidence import Evidence
-from aigprove.output.report import PropertyAnswer
-from aigprove.output.signals import Signals
 from aigprove.processes.files import Sealed
 from aigprove.questions.bad_states import of_kind
-from aigprove.questions.checker import Checker, Claim
+from aigprove.questions.checker import Checker, Claim, Subject
 from aigprove.questions.input_file import InputFile, counted
-from aigprove.questions.target import Target, changes_of
+from aigprove.questions.properties import Properties
+from aigprove.questions.target import Statements, Target, changes_of
+
+if TYPE_CHECKING:
+    from aigprove.options.options import Options
+    from aigprove.output.signals import Signals
 
 
-class Justices(Target):
-    """The justice properties of a file, which are the liveness assertions of a design."""
+class Justice(Properties):
+    """The justice properties of a file, or one of them."""
 
-    # The letter of their numbers, what all and one of them are called among what is kept, and the
-    # option that asks about one.
-    letter, stems, option = "j", ("justices", "justice"), "justice"
+    letter, stems, option, command = "j", ("justices", "justice"), "justice", "live"
+    counts, can_be_simulated = True, False
+    # Whether nothing else is asked about.
+    is_alone = True
 
     def __init__(self, given: InputFile) -> None:
-        self.given, self.path, self.name, self.asked = given, given.path, given.name, given.file
+        super().__init__(given)
         design = given.design
         if design and not (design.has_lives and design.assertions):
             raise Fault(f"{self.path}: {design.top} has no liveness assertion that can be asked "
                         "about")
 
-    def circuit(self) -> Circuit:
-        return self.given.circuit()
-
-    def about(self) -> Iterator[str]:
-        return self.given.about()
-
-    def keep(self, evidence: Evidence) -> None:
-        self.given.keep(evidence)
-
-    def answers(self) -> list[PropertyAnswer]:
-        """Returns the properties, which have no answers yet, with their names."""
-        named = self.given.properties(self.letter, self.given.header().justice)
-        return [PropertyAnswer(self.letter, i, *it) for i, it in enumerate(named)]
+    def one(self, number: int, above: str = "") -> Justice:
+        if number >= self.given.header().justice:
+            raise Fault(f"{self.path}: no such justice property")
+        made = super().one(number, above)
+        made.so_far, made.nothing = f"no fair lasso of j{number}", f"nothing was shown of j{number}"
+        made.told = Statements(*(f"live: {line}" for line in Statements()))
+        made.told = made.told._replace(safe=made.lines.safe)
+        return made
 
     def each(self) -> Iterator[Target]:
         """Yields each of them, none of which is asked about alone."""
         for number in range(self.given.header().justice):
-            yield Justice(self, number, is_alone=False)
+            made = self.one(number)
+            made.is_alone = False
+            yield made
 
+    def counting(self, count: int) -> Justice:
+        """Returns the circuit that is bad where so many rounds have ended, if one is asked about.
 
-def lives(options: Options, above: str, checker: Checker, first: InputFile) -> Justices:
-    """Returns the liveness assertions of a design of which something else was asked first.
-
-    What was read of the design is given."""
-    design = of_kind(LIVE, options.design, first)
-    return Justices(InputFile(options.files, design, above, checker, "lives", first.given))
-
-
-def given_justice(options: Options, above: str, checker: Checker) -> Target:
-    """Returns the justice property that a command line names."""
-    assert options.justice is not None
-    given = InputFile(options.files, options.design, above, checker)
-    return Justice(Justices(given), options.justice)
-
-
-class Justice(Target):
-    """A justice property of a file, by its number there."""
-
-    # What stands before lines of aigcheck, and by which command of aigedit the file is made.
-    prefix, of_step, command, counts, can_be_simulated = "live: ", "live: ", "live", True, False
-
-    def __init__(self, whole: Justices, number: int, above: str = "",
-                 is_alone: bool = True) -> None:
-        self.given, self.path, self.number = whole.given, whole.path, number
-        self.above, self.is_alone = above, is_alone
-        # The name of the file that was given among what is kept, which may stand in a folder.
-        self.file = above + self.given.name
-        self.name, self.stem = f"justice-{number}.aag", f"{whole.stems[1]}-{number}"
-        self.safe, self.so_far = f"no fair run of j{number}", f"no fair lasso of j{number}"
-        self.nothing = f"nothing was shown of j{number}"
-        if number >= self.given.header().justice:
-            raise Fault(f"{self.path}: no such justice property")
-
-    def make(self) -> Sealed:
-        return self.given.checker.made(self.command, self.given.file, self.number)
-
-    def circuit(self) -> Circuit:
-        return self.given.circuit()
-
-    def unreached(self, command: str, words: Sequence[str], files: Mapping[str, Sealed],
-                  rounds: Sequence[str] = ()) -> Claim:
-        """Returns that the file that was given has no fair run, as aigcheck says of it."""
-        words = ["--justice", str(self.number), *rounds, command, self.file, *words]
-        return Claim(self.safe, words, {self.file: self.given.file, **files})
+        If it never is, no run is fair."""
+        made, (_, number) = copy.copy(self), self.subject.edit
+        words = [*self.subject.words, "--rounds", str(count)]
+        made.subject = self.subject._replace(words=words, edit=["rounds", number, str(count)])
+        return made
 
     def is_fair(self) -> bool:
         return self.given.header().fairness > 0
-
-    def rounds(self, checker: Checker, count: int) -> Sealed:
-        """Returns the file in which so many rounds end."""
-        return checker.made("rounds", self.given.file, self.number, count)
 
     def warnings(self) -> Iterator[str]:
         header = self.given.header()
@@ -121,27 +82,29 @@ class Justice(Target):
         if self.given.design:
             yield f"j{self.number}: {self.given.design.assertion(self.number)[0]}"
 
-    def places(self, header: Header) -> list[str]:
-        return [f"j{self.number}"]
-
     def of_file(self, trace: Witness) -> Witness:
         return trace.lasso(self.number, self.given.header().latches)
 
-    def confirm(self, trace: Witness) -> None:
-        lasso = Sealed(self.of_file(trace).text().encode())
-        _, self.loop = self.given.checker.lasso(self.given.file, lasso)
+    def run(self, checker: Checker, trace: Witness) -> Claim:
+        files = {self.name: self.given.file, "witness": Sealed(trace.text().encode())}
+        line, _ = checker.lasso(Subject(self.given.file), files["witness"])
+        return Claim(line, ["run", *files], files)
+
+    def loop(self, lasso: Witness) -> tuple[int, int]:
+        """Returns the first and the last step of a lasso's loop, as aigcheck finds it."""
+        run = Sealed(lasso.text().encode())
+        return self.given.checker.lasso(Subject(self.given.file), run)[1]
 
     def found(self, signals: Signals, traces: Sequence[Witness]) -> str:
         """Returns the line that says where the loop of a lasso is, as aigcheck found."""
         place = signals.place("j", self.number)
-        return f"a fair run of {place}: {span(*self.loop)} again and again"
+        return f"a fair run of {place}: {span(*self.loop(traces[0]))} again and again"
 
-    def lines(self, signals: Signals, circuit: Circuit, trace: Witness) -> Iterator[str]:
+    def lines_of_run(self, signals: Signals, circuit: Circuit, lasso: Witness) -> Iterator[str]:
         """Yields the lines of a lasso.
 
         They have the latches that its literals read, or that are uninitialised and matter, and the
         inputs of each step."""
-        lasso = self.of_file(trace)
         literals = circuit.justice[self.number] + circuit.fairness
         read: set[int] = set().union(*map(circuit.read_by, literals))
         read = (named(circuit, read) if self.given.design else read) | self.opened(circuit, lasso)
@@ -172,19 +135,29 @@ class Justice(Target):
         design = self.given.design
         if design:
             own, text = design.assertion(self.number)
-            chosen = [row[self.number - design.counts[LIVE]] for row in lasso.steps]
+            place = design.order[self.number] - design.counts[LIVE]
+            chosen = [row[place] for row in lasso.steps]
             yield f"{own} fails: from step {chosen.index('1')} on it is never met"
             yield from [f"it says: {text}"] * bool(text)
 
-    def dump(self, circuit: Circuit, trace: Witness) -> Iterable[str]:
+    def dump(self, circuit: Circuit, lasso: Witness) -> Iterable[str]:
         """Returns the lines of a value change dump, in which the loop is marked."""
-        lasso = self.of_file(trace)
-        return waves.dump(circuit, lasso.start, lasso.steps, self.loop[0])
+        return waves.dump(circuit, lasso.start, lasso.steps, self.loop(lasso)[0])
 
-    def keep(self, evidence: Evidence) -> None:
-        if not self.above:
-            self.given.keep(evidence)
-        evidence.makes(self.name, self.asked, self.command, self.file, str(self.number))
+
+def lives(options: Options, above: str, checker: Checker, first: InputFile) -> Justice:
+    """Returns the liveness assertions of a design of which something else was asked first.
+
+    What was read of the design is given."""
+    design = of_kind(LIVE, options.design, first)
+    return Justice(InputFile(options.files, design, above, checker, "lives", first.given))
+
+
+def given_justice(options: Options, above: str, checker: Checker) -> Target:
+    """Returns the justice property that a command line names."""
+    assert options.justice is not None
+    given = InputFile(options.files, options.design, above, checker)
+    return Justice(given).one(options.justice)
 
 
 def span(begin: int, last: int) -> str:

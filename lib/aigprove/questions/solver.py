@@ -10,7 +10,7 @@ from aigprove.output.messages import ending
 from aigprove.processes.files import Folder, Sealed
 from aigprove.processes.groups import Words
 from aigprove.processes.scheduler import Task
-from aigprove.questions.checker import Checker, Query
+from aigprove.questions.checker import Checker, Query, Subject
 
 # How clauses end that say last that variable 1 is true, which is false by their first.
 CONFLICT = b"\n1 0\n"
@@ -101,14 +101,14 @@ class Solver:
         words = [*self.words, "-t", str(seconds)]
         return Solver(words, self.checker, self.above, self.takes_turns)
 
-    def ask(self, question: Query, file: Sealed) -> tuple[bool, Sealed]:
+    def ask(self, question: Query, subject: Subject) -> tuple[bool, Sealed]:
         """Returns whether a question has a solution, as the solver says, and its evidence.
 
         That is the solution or the proof, which nobody has looked at. A question about the steps
         up to K whose clauses are in conflict at once isn't asked, and needs no proof."""
         with Folder(self.above) as folder:
             with folder.make("clauses.cnf") as out:
-                self.checker.print_question(question, file, out)
+                self.checker.print_question(question, subject, out)
             is_bounded = question.command == "bounded"
             if is_bounded and are_in_conflict(folder.place("clauses.cnf")):
                 return False, self.checker.nothing

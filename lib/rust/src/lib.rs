@@ -1,15 +1,30 @@
-//! The proved circuit library: AIGER files as bytes in, answers as bytes out.
+//! The proved circuit library: functions from the bytes of AIGER files to answers, and circuits that stay in memory (`Aig`).
 //!
-//! What each call promises is proved, of the calls of `aig.h` that stand under it; this crate is not. A call keeps nothing, and calls can
-//! be made from several threads.
+//! What each call promises is proved, of the calls of `aig.h` that stand under it; this crate is not. The functions keep nothing, and can be
+//! called from several threads. `Aig`, `AigEdge`, `AigLatch`, `AigNode` and `TernarySimulate` have the names of the crate aig 0.4.6, and its
+//! calls. `Unrolling` unrolls a circuit step by step.
 
 use std::cell::Cell;
 use std::fmt;
 
 mod calls;
+mod circuit;
+mod edge;
+// Edges in lists are joined by the calls for two.
+#[allow(dead_code)]
+mod handle_calls;
+mod held;
+mod logic;
 mod made;
+mod ternary;
+mod unrolling;
 
+pub use circuit::{Aig, Lists, PropList};
+pub use edge::{AigEdge, AigLatch, AigNode, AigNodeType};
+pub use logic::{DagCnf, Lbool, Lit, LitVvec, Var, VarVMap};
 pub use made::*;
+pub use ternary::TernarySimulate;
+pub use unrolling::Unrolling;
 
 /// Why a call has no answer: a status of `aig.h` above 1. It is printed in the words of the programs.
 #[derive(Clone, Copy, PartialEq, Eq)]

@@ -1,4 +1,4 @@
-//! The examples of the docstrings of `aig` and `aig_encode`: `tests/examples.py` checks that each stands here, line for line.
+//! The examples of the docstrings of `aig` and `aig_encode`: `tests/pages/test_examples.py` checks that each stands here, line for line.
 
 use crate::tests::read;
 use aig::{Aig, AigEdge, TernarySimulate};

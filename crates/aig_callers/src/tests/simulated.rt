@@ -2,8 +2,8 @@
 
 use aig_base::FromRead;
 use aig_refutation::RefutationError;
-use aig_simulated::{Condition, ConditionError, SimulationError, check_simulated};
 use aig_subjects::FileSubject;
+use aig_witness_circuit_checks::{Condition, ConditionError, SimulationError, check_simulated};
 use std::alloc::Global;
 
 /// The limit on nodes.

@@ -5,6 +5,7 @@ ghost use Rattle.aig_format.specs.Circuit.{circuit_of};
 ghost use Rattle.aig_format.specs.File.{File};
 ghost use Rattle.aig_format.specs.Fits.{Fits};
 ghost use Rattle.aig_edit_laws.specs.Fair.{HasFairLasso};
+ghost use Rattle.aig_edit_laws.specs.declared.fairness.Fairness.TheVariants.{Justice};
 ghost use Rattle.aig_witness.specs.Machine.{IsGiven};
 ghost use Rattle.aig_witness.specs.Witness.{Witness};
 ghost use Rattle.aig_witness.specs.declared.fault.WitnessFault.TheVariants as witness;
@@ -27,7 +28,7 @@ pub fn known_lassos_show()
 /// Law: where a witness shows a fair lasso, the justice property has one of so many steps.
 pub fn shown_lassos_are_fair()
     ensures { (f : File) (w : Witness) (l : ℕ) → ShowsLasso f w l
-        → HasFairLasso f w.bad (length w.steps - 1) }
+        → HasFairLasso f (Justice w.bad) (length w.steps - 1) }
 {}
 
 /// Law: where every value of a witness is given, a refusal that is not for want of memory means that it shows no fair lasso, from

@@ -1,6 +1,6 @@
 use Rattle.aig_base.proofs.Words.{Err, Ok, err_from_is_err_and, map, string_bytes}
 use Rattle.aig_check_commands.specs.declared.error.CheckError.TheVariants as errors
-use Rattle.aig_check_commands.proofs.Flushing.{acts_ended}
+use Rattle.aig_check_commands.proofs.check_lemmas.Flushing.{acts_ended}
 use Rattle.aig_check_commands.proofs.acting.print.Goals as goal
 
 pub returns-in_err-flush-clause-acts : goal.returns-in_err-flush-clause-acts

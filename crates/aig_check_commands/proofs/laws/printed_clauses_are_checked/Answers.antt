@@ -1,4 +1,4 @@
-use Rattle.aig_check_commands.proofs.Words.{◌≡◌, ap₂, sym, ◌∙◌, Bool, List, Lit, Some, ℕ, Circuit, Makes, WindowClauses, ArePrinted, clauses_with, same_Some}
+use Rattle.aig_check_commands.proofs.Words.{◌≡◌, ap₂, sym, ◌∙◌, Bool, List, Some, ℕ, Circuit, Makes, WindowClauses, ArePrinted, clauses_with, same_Some}
 use Rattle.aig_answers.specs.declared.plans.asking.Ask.{Ask}
 use Rattle.aig_answers.specs.declared.plans.asking.Ask.TheVariants as asks
 use Rattle.aig_check_commands.proofs.laws.printed_clauses_are_checked.Goals as goal

@@ -23,7 +23,7 @@ returns-clause-reads g c =
     let told = c.in_ok-lists.ensures in
     let written = c.write_live.ensures in
     taken_file g.R.Source.left g.R.Source.failed c.args.limit c.args.r.now c.read.new.r
-    (PrintsLive g.W.Sink.held g.W.Sink.failed c.args.j c.args.w.now c.write_live.new.w)
+    (PrintsLive g.W.Sink.held g.W.Sink.failed c.args.fairness c.args.w.now c.write_live.new.w)
     c.in_ok-lists.lists c.write_live.result told.verdict told.circuit written.never_read
     (own_of c.write_live.result written.never_read)
     (λ f fits is. written.prints f c.args.limit fits (c.new.ensures ∙ is))

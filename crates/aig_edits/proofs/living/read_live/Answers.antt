@@ -23,6 +23,6 @@ returns-clause-reads g c =
     let told = c.in_ok-lists.ensures in
     let made = c.live_file_of.ensures in
     taken_file g.R.Source.left g.R.Source.failed c.args.limit c.args.r.now c.read.new.r
-    (GivesLive c.args.j) c.in_ok-lists.lists c.live_file_of.result told.verdict told.circuit
+    (GivesLive c.args.fairness) c.in_ok-lists.lists c.live_file_of.result told.verdict told.circuit
     made.never_read (own_of c.live_file_of.result made.never_read)
     (λ f fits is. made.gives f c.args.limit fits (c.new.ensures ∙ is))

@@ -7,7 +7,7 @@ pub returns-in_err-made-clause-prints : goal.returns-in_err-made-clause-prints
 returns-in_err-made-clause-prints g c =
     let p = err_from_is_err_and c.from_residual.result c.from_residual.ensures.1 in
     let e = c.in_err-made.field-0.0 in
-    rw (p.1, p.2) (λ f bound fits is. prints_none c.args.j g.W.Sink.held g.W.Sink.failed
+    rw (p.1, p.2) (λ f bound fits is. prints_none c.args.fairness g.W.Sink.held g.W.Sink.failed
     c.args.w.now f e (c.in_err-made.ensures.gives f bound fits is))
 
 pub returns-in_err-made-clause-never_read : goal.returns-in_err-made-clause-never_read

@@ -23,7 +23,7 @@ returns-clause-reads g c =
     let told = c.in_ok-lists.ensures in
     let written = c.write_rounds.ensures in
     taken_file g.R.Source.left g.R.Source.failed c.args.limit c.args.r.now c.read.new.r
-    (PrintsRounds g.W.Sink.held g.W.Sink.failed c.args.j c.args.count c.args.w.now c.write_rounds.new.w)
+    (PrintsRounds g.W.Sink.held g.W.Sink.failed c.args.fairness c.args.count c.args.w.now c.write_rounds.new.w)
     c.in_ok-lists.lists c.write_rounds.result told.verdict told.circuit written.never_read
     (own_of c.write_rounds.result written.never_read)
     (λ f fits is. written.prints f c.args.limit fits (c.new.ensures ∙ is))

@@ -23,6 +23,6 @@ returns-clause-reads g c =
     let told = c.in_ok-lists.ensures in
     let made = c.rounds_file_of.ensures in
     taken_file g.R.Source.left g.R.Source.failed c.args.limit c.args.r.now c.read.new.r
-    (GivesRounds c.args.j c.args.count) c.in_ok-lists.lists c.rounds_file_of.result told.verdict told.circuit
+    (GivesRounds c.args.fairness c.args.count) c.in_ok-lists.lists c.rounds_file_of.result told.verdict told.circuit
     made.never_read (own_of c.rounds_file_of.result made.never_read)
     (λ f fits is. made.gives f c.args.limit fits (c.new.ensures ∙ is))

@@ -1,5 +1,0 @@
-use Rattle.aig_check_commands.proofs.Words.{take, enumerate_from, flat_map, Buffers, latch_leaves, latch_comment}
-use Rattle.aig_check_commands.proofs.comments.buffer_latchs.Given as goal
-
-abbrev pub invariant-loop-i : goal.invariant-loop-i
-invariant-loop-i g l = Buffers l.fn.buffer (g.W.Sink.held l.fn.w) l.buffer (g.W.Sink.held l.w) (flat_map latch_comment (take l.i (enumerate_from 0 (latch_leaves l.latchs))))

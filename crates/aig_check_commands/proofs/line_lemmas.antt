@@ -1,0 +1,4 @@
+pub mod Commenting
+pub mod Placing
+pub mod Passing
+pub mod Summing

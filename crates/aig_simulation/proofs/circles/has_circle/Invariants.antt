@@ -1,9 +1,0 @@
-use Rattle.std.proofs.Common.{ℕ, ◌<◌}
-use Rattle.aig_simulation.proofs.Words.{IsMarked, IsAtRest}
-use Rattle.aig_simulation.proofs.circles.has_circle.Given as goal
-
-abbrev pub invariant-loop-start : goal.invariant-loop-start
-invariant-loop-start l = record {
-  rest : IsAtRest l.nodes l.resets l.search;
-  opened : (n : ℕ) → n < l.start → IsMarked l.search.opened.items n;
-}

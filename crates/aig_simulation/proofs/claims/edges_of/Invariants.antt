@@ -1,8 +1,0 @@
-use Rattle.std.proofs.Common.{◌≡◌, [], take}
-use Rattle.aig_simulation.specs.Exact.{listed_in, with_claims}
-use Rattle.aig_simulation.proofs.claims.edges_of.Given as goal
-
-abbrev pub invariant-loop-claim : goal.invariant-loop-claim
-invariant-loop-claim l =
-    listed_in l.nodes.items l.edges.items
-    ≡ with_claims (listed_in l.fn.nodes.items []) (take l.claim-index l.claims)

@@ -1,7 +1,0 @@
-use Rattle.aig_simulation.specs.Questions.{Holds}
-use Rattle.aig_simulation.proofs.AskedCircuits.{safe_where_holds}
-use Rattle.aig_simulation.proofs.conditions_hold_where_questions_are_safe.Goals as goal
-
-pub returns : goal.returns
-returns c = λ condition shared model witness q asks.
-    safe_where_holds (Holds condition shared model witness) q asks

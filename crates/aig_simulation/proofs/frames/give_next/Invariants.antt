@@ -1,8 +1,0 @@
-use Rattle.aig_simulation.proofs.Words.{ℕ, take, ◌≡◌, given_at, next_leaves, option_or}
-use Rattle.aig_simulation.proofs.frames.give_next.Given as goal
-
-abbrev pub invariant-loop-latch : goal.invariant-loop-latch
-invariant-loop-latch l =
-    (n : ℕ)
-    → given_at l.given n
-    ≡ option_or (next_leaves (take l.latch-index l.latchs) l.images n) (given_at l.initial.given n)

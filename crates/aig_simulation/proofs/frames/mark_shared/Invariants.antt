@@ -1,5 +1,0 @@
-use Rattle.aig_simulation.proofs.Words.{take, MarksShared}
-use Rattle.aig_simulation.proofs.frames.mark_shared.Given as goal
-
-abbrev pub invariant-loop-pair : goal.invariant-loop-pair
-invariant-loop-pair l = MarksShared (take l.pair-index l.shared) l.initial.marks l.marks

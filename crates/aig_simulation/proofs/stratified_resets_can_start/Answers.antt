@@ -1,5 +1,0 @@
-use Rattle.aig_simulation.proofs.Filling.{stratified_starts}
-use Rattle.aig_simulation.proofs.stratified_resets_can_start.Goals as goal
-
-pub returns : goal.returns
-returns c = stratified_starts

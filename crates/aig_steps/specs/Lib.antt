@@ -1,0 +1,5 @@
+pub mod Stepwise
+pub mod Induction
+pub mod Unrolling
+pub mod Kept
+pub mod Ends

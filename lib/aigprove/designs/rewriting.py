@@ -1,0 +1,148 @@
+"""What yosys doesn't read of a text in Verilog, written as what it reads: properties with a clock,
+actions of assertions, and system tasks that end or tell something."""
+from __future__ import annotations
+
+import re
+from collections.abc import Iterable, Iterator
+from typing import NamedTuple
+
+from aigprove.circuits.aiger import Fault
+from aigprove.designs import properties
+from aigprove.designs.statements import Blocks, closing
+from aigprove.designs.texts import Text
+
+# An assertion, perhaps with a label, up to its parenthesis.
+ASSERTION = rb"(?<![\w$.`\\'])(?:(?P<label>[A-Za-z_][\w$]*)\s*:\s*)?" \
+    rb"(?P<kind>assert|assume|cover|restrict)\b(?:\s+(?P<what>property|sequence))?\s*(?=\()"
+# Calls without an effect on the design, and those that an option makes assertions.
+TELLING = rb"\$(?:display|write|strobe|monitor|error|warning|info|fatal|stop|finish)\b"
+CALL = re.compile(rb"\s*" + TELLING + rb"\s*")
+ENDING = rb"(?<![\w$.`\\])\$(?:(?P<failing>fatal|stop)|error|warning|info|finish)\b\s*"
+FOUND = re.compile(ASSERTION + rb"|" + ENDING)
+IMPLICATION, NAME = re.compile(rb"\|[-=]>"), re.compile(rb"[A-Za-z_][\w$]*")
+ELSE, BEGIN, END, SEMICOLON = (re.compile(rb"\s*" + sign)
+                               for sign in [rb"else\b", rb"begin\b", rb"end\b", rb";"])
+# Words behind which one item stands without begin and end.
+ALONE = re.compile(rb"(?:[):]|\belse)\s*$")
+IN_BLOCK = "a property with a clock stands beside blocks, and not in one"
+ACTION = "what an assertion does when it passes or fails isn't read, " \
+    "unless it is a system task that tells something: leave it out"
+
+
+class Edit(NamedTuple):
+    """A part of a text, and what is to stand there."""
+
+    start: int
+    end: int
+    text: bytes
+
+
+def call_end(words: bytes, place: int) -> int | None:
+    """Returns where a call that only tells something ends, if there is one."""
+    found = CALL.match(words, place)
+    if not found:
+        return None
+    end = closing(words, found.end()) if words[found.end():found.end() + 1] == b"(" \
+        else found.end()
+    semicolon = SEMICOLON.match(words, end)
+    return semicolon.end() if semicolon else None
+
+
+def action_end(words: bytes, place: int) -> int | None:
+    """Returns where an action of an assertion ends, if it only tells something."""
+    found = BEGIN.match(words, place)
+    if not found:
+        found = SEMICOLON.match(words, place)
+        return found.end() if found else call_end(words, place)
+    end = found.end()
+    while own := call_end(words, end):
+        end = own
+    last = END.match(words, end)
+    return last.end() if last else None
+
+
+def actions_end(words: bytes, place: int) -> int | None:
+    """Returns where what an assertion does ends, if it only tells something."""
+    if found := SEMICOLON.match(words, place):
+        return found.end()
+    passed = place if ELSE.match(words, place) else action_end(words, place)
+    fails = ELSE.match(words, passed) if passed is not None else None
+    return action_end(words, fails.end()) if fails else passed
+
+
+class Rewriting:
+    """A text, and what is to be written otherwise."""
+
+    def __init__(self, data: bytes, are_stops_failing: bool) -> None:
+        self.text, self.are_stops_failing = Text(data), are_stops_failing
+        self.words = self.text.words
+        self.blocks, self.count = Blocks(self.words), 0
+        self.names = set(NAME.findall(self.words))
+
+    def edits(self) -> Iterator[Edit]:
+        """Yields what is to be written otherwise, in order."""
+        last = 0
+        for found in FOUND.finditer(self.words):
+            if found.start() >= last:
+                edit = self.assertion(found) if found["kind"] else self.ending(found)
+                if edit:
+                    last = edit.end
+                    yield edit
+
+    def ending(self, found: re.Match[bytes]) -> Edit | None:
+        """Returns what stands for a system task in a block."""
+        end = call_end(self.words, found.start())
+        if end is None or not self.blocks.at(found.start()):
+            return None
+        is_failing = found["failing"] and self.are_stops_failing
+        return self.edit(found.start(), end, b"assert (0);" if is_failing else b";")
+
+    def assertion(self, found: re.Match[bytes]) -> Edit | None:
+        """Returns what stands for an assertion that yosys doesn't read so."""
+        end = closing(self.words, found.end())
+        inner = self.words[found.end() + 1:end - 1]
+        whole = actions_end(self.words, end)
+        if whole is None:
+            raise self.text.fault(found.start(), ACTION)
+        if found["what"] and (b"@" in inner or IMPLICATION.search(inner)):
+            if self.blocks.at(found.start()):
+                raise self.text.fault(found.start(), IN_BLOCK)
+            return self.edit(found.start(), whole, self.clocked(found, inner))
+        if self.words[end:whole].strip() == b";":
+            return None
+        return self.edit(end, whole, b";")
+
+    def clocked(self, found: re.Match[bytes], inner: bytes) -> bytes:
+        """Returns the block of a property with a clock."""
+        self.count += 1
+        name = found["label"] or b"property_%d" % self.count
+        while not self.names.isdisjoint([name + b"_now", name + b"_attempts"]):
+            name += b"_"
+        try:
+            given = properties.parsed(inner)
+            if found["kind"] == b"cover" and (given.is_later or IMPLICATION.search(inner)):
+                raise Fault(properties.COVERED)
+        except Fault as why:
+            raise self.text.fault(found.start("kind"), str(why)) from None
+        label = found["label"] + b": " if found["label"] else b""
+        made = properties.Block(found["kind"], label, name, given).text()
+        is_alone = ALONE.search(self.words[max(0, found.start() - 200):found.start()])
+        return b"begin %s end" % made if given.length and is_alone else made
+
+    def edit(self, start: int, end: int, made: bytes) -> Edit:
+        """Returns an edit that keeps the lines behind it."""
+        return Edit(start, end, made + b"\n" * self.words.count(b"\n", start, end))
+
+
+def replaced(data: bytes, edits: Iterable[Edit]) -> bytes:
+    """Returns a text in which parts are written otherwise, in order."""
+    parts, last = [], 0
+    for edit in edits:
+        parts += [data[last:edit.start], edit.text]
+        last = edit.end
+    return b"".join([*parts, data[last:]])
+
+
+def rewritten(data: bytes, are_stops_failing: bool) -> bytes:
+    """Returns a text in which yosys reads what it means."""
+    return replaced(data, Rewriting(data, are_stops_failing).edits())

@@ -1,0 +1,74 @@
+"""The properties of a file that was given, of which all are asked about, or one by its number."""
+from __future__ import annotations
+
+import copy
+from collections.abc import Iterator
+from typing import TYPE_CHECKING, TypeVar
+
+from aigprove.circuits.aiger import Circuit, Header
+from aigprove.questions.checker import Subject
+from aigprove.questions.input_file import InputFile
+from aigprove.questions.target import Target, statements_about
+
+if TYPE_CHECKING:
+    from aigprove.output.evidence import Evidence
+    from aigprove.output.report import PropertyAnswer
+
+Own = TypeVar("Own", bound="Properties")
+
+
+class Properties(Target):
+    """The properties of one kind that a file has, or one of them."""
+
+    # The letter of their numbers, what all and one of them are called among what is kept, the
+    # option that asks about one, and the command of aigedit that makes a file of it.
+    letter: str
+    stems: tuple[str, str]
+    option: str
+    command: str
+    # Whether one is asked about, and which; and in which folder the file is kept, if it isn't kept
+    # with that.
+    is_one, number, above = False, 0, ""
+
+    def __init__(self, given: InputFile) -> None:
+        self.given, self.path, self.name = given, given.path, given.name
+        self.subject = Subject(given.file)
+
+    def one(self: Own, number: int, above: str = "") -> Own:
+        """Returns one of them, of a file that is kept in this folder."""
+        made = self.placed(above)
+        made.is_one, made.number, made.stem = True, number, f"{self.stems[1]}-{number}"
+        words = [f"--{self.option}", str(number)]
+        made.subject = Subject(made.subject.file, words, [self.command, str(number)])
+        made.lines = statements_about(self.letter, number)
+        return made
+
+    def placed(self: Own, above: str) -> Own:
+        """Returns the same of a file that is kept in this folder."""
+        made = copy.copy(self)
+        made.above, made.name, made.stem = above, above + self.name, self.stems[0]
+        return made
+
+    def circuit(self) -> Circuit:
+        return self.given.circuit()
+
+    def places(self, header: Header) -> list[str]:
+        return [f"{self.letter}{self.number}"] if self.is_one else super().places(header)
+
+    def about(self) -> Iterator[str]:
+        yield from self.given.about()
+
+    def answers(self) -> list[PropertyAnswer]:
+        """Returns its properties, which have no answers yet, with their names and places."""
+        from aigprove.output.report import PropertyAnswer
+
+        named = self.given.properties(*self.counted())
+        return [PropertyAnswer(self.letter, i, *it) for i, it in enumerate(named)]
+
+    def counted(self) -> tuple[str, int]:
+        """Returns the letter of the names of its properties, and how many there are."""
+        return self.letter, self.given.header().justice
+
+    def keep(self, evidence: Evidence) -> None:
+        if not self.above:
+            self.given.keep(evidence)

@@ -1,0 +1,116 @@
+"""Which release the programs are of, as ./dist writes it beside them, and prebuilt programs.
+
+The folder prebuilt/ of a clone has programs of the last release. They are used only if they were
+built from the crates that the clone has: by the sum that git knows them by, which is computed here
+of the files, so that neither git nor the toolchain is needed."""
+import functools
+import hashlib
+import json
+import os
+import sys
+from collections.abc import Iterator
+from typing import NamedTuple
+
+from aigprove import VERSION
+
+FILE, PREBUILT = "release.json", "prebuilt"
+# What builds and tests leave in the folders of crates.
+LEFT = {"out", "__pycache__"}
+
+
+class Release(NamedTuple):
+    """A release: its version, the tree of crates/ that its programs were built from, the kit that
+    built them, the tools that linked the shared library, and the sums of files."""
+
+    version: str
+    tree: str
+    kit: str
+    linkers: str = ""
+    sums: dict[str, str] = {}
+
+    def __str__(self) -> str:
+        return f"release {self.version}, crates {self.tree}, {self.kit}"
+
+
+def read(folder: str) -> Release | None:
+    """Returns the release that a folder tells of, if it does."""
+    try:
+        with open(os.path.join(folder, FILE), encoding="utf-8") as file:
+            return Release(**json.load(file))
+    except FileNotFoundError:
+        return None
+
+
+def written(release: Release) -> bytes:
+    """Returns the text that `read` reads."""
+    return (json.dumps(release._asdict(), indent=2) + "\n").encode()
+
+
+def object_sum(kind: str, data: bytes) -> bytes:
+    """Returns the sum that git knows an object by."""
+    return hashlib.sha1(f"{kind} {len(data)}\0".encode() + data, usedforsecurity=False).digest()
+
+
+def entry(path: os.DirEntry[str]) -> tuple[str, bytes] | None:
+    """Returns the mode and the sum of a file, a link or a folder that isn't empty, as git has
+    them."""
+    if path.is_symlink():
+        return "120000", object_sum("blob", os.fsencode(os.readlink(path)))
+    if path.is_dir():
+        found = tree_object(path.path)
+        return ("40000", object_sum("tree", found)) if found else None
+    with open(path, "rb") as file:
+        data = file.read()
+    return ("100755" if path.stat().st_mode & 0o100 else "100644"), object_sum("blob", data)
+
+
+def tree_object(folder: str) -> bytes:
+    """Returns the object by which git knows what is in a folder."""
+    with os.scandir(folder) as scanned:
+        found = [(path.name, it) for path in scanned
+                 if path.name not in LEFT and (it := entry(path))]
+    # Git sorts a folder as if its name ended with a slash.
+    found.sort(key=lambda it: os.fsencode(it[0] + "/" * (it[1][0] == "40000")))
+    return b"".join(f"{mode} ".encode() + os.fsencode(name) + b"\0" + it
+                    for name, (mode, it) in found)
+
+
+@functools.cache
+def tree_of(crates: str) -> str:
+    """Returns the sum that git has for the folder of crates."""
+    return object_sum("tree", tree_object(crates)).hex()
+
+
+def of_clone(top: str) -> Release | None:
+    """Returns the release of a clone's prebuilt programs, if they are of its own crates."""
+    known = read(os.path.join(top, PREBUILT))
+    return known if known and known.tree == tree_of(os.path.join(top, "crates")) else None
+
+
+def places(top: str, name: str, is_prebuilt: bool) -> Iterator[str]:
+    """Yields where a program may be, in order: where programs are installed below a folder, beside
+    the script that runs, where they are built, in prebuilt/ if that is of the same crates, and in
+    PATH. Yields prebuilt/ alone if its programs are asked for."""
+    if not is_prebuilt:
+        beside = os.path.dirname(os.path.realpath(sys.argv[0]))
+        for folder in [os.path.join(top, "bin"), beside, os.path.join(top, "crates", name, "out")]:
+            yield os.path.join(folder, name)
+    if is_prebuilt or of_clone(top):
+        yield os.path.join(top, PREBUILT, name)
+    if not is_prebuilt:
+        yield name
+
+
+def programs(top: str) -> str:
+    """Returns which release, crates and kit the programs below a folder are of."""
+    crates = os.path.join(top, "crates")
+    if not os.path.isdir(crates):
+        return str(read(os.path.dirname(os.path.realpath(__file__))) or "of an unknown release")
+    if os.path.exists(os.path.join(crates, "aigcheck", "out", "aigcheck")):
+        return f"built here, crates {tree_of(crates)}"
+    return str(of_clone(top) or f"not built, crates {tree_of(crates)}")
+
+
+def version(top: str) -> str:
+    """Returns what --version prints."""
+    return f"aigprove {VERSION}\nprograms: {programs(top)}\n"

@@ -1,0 +1,116 @@
+"""What a release is made of, and where each file lies below a prefix."""
+from __future__ import annotations
+
+import pathlib
+import subprocess
+import sys
+import tempfile
+
+from aigprove import VERSION, release
+from aigprove.release import Release
+from dist.completion import completions
+from dist.files import File, Link, Tree, below, read
+from dist.licences import notices, tools
+
+TOP = pathlib.Path(__file__).resolve().parent.parent.parent
+CRATES = TOP / "crates"
+# What builds the library.
+ARCHIVE = TOP / "tests" / "support" / "archive.py"
+PROGRAMS = ["aigtool", "aigedit", "aigcheck"]
+HEADERS = ["aig.h", "aig_circuit.h", "aig.hpp"]
+MODULES = ["aig.py", "aig_calls.py", "aig_circuits.py", "aig_library.py"]
+# By which programs ask for the shared library. Its number is that of incompatible versions.
+SONAME = f"libaig.so.{VERSION.partition('.')[0]}"
+DOCUMENTS = "share/doc/aig"
+# Where pkg-config finds the prefix of a folder that may be moved.
+MOVABLE = "${pcfiledir}/../.."
+# How the linker is told where programs look for the shared library.
+RPATH = "-Wl,-rpath,${libdir} "
+
+
+def program(name: str) -> pathlib.Path:
+    """Returns where a program is built."""
+    return CRATES / name / "out" / name
+
+
+def library(name: str) -> pathlib.Path:
+    """Returns where a library is built."""
+    return CRATES / "aig_calls" / "out" / name
+
+
+def kit() -> str:
+    """Returns the name of the kit whose `rt` is found, as `rt version` prints it; nothing if there
+    is none."""
+    found = tools()
+    return (found / "KIT-ID").read_text(encoding="utf-8").strip() if found else ""
+
+
+def current() -> Release:
+    """Returns the release that this clone makes."""
+    return Release(VERSION, release.tree_of(str(CRATES)), kit())
+
+
+def prover(known: Release) -> Tree:
+    """Returns aigprove with its package, and aigwaves."""
+    package = TOP / "lib" / "aigprove"
+    files = [it for it in package.rglob("*") if it.is_file() and "__pycache__" not in it.parts]
+    found = {f"lib/{it.relative_to(package.parent)}": read(package, str(it.relative_to(package)))
+             for it in files}
+    return {**found, "lib/aigprove/release.json": File(release.written(known)),
+            "bin/aigprove": read(TOP, "bin/aigprove"),
+            "bin/aigwaves": read(TOP, "examples/waves.py")}
+
+
+def pkg_config(prefix: str, libdir: str, rpath: str) -> File:
+    """Returns what pkg-config reads."""
+    text = (TOP / "lib" / "aig.pc").read_text(encoding="utf-8")
+    words = {"PREFIX": prefix, "LIBDIR": libdir, "RPATH": rpath, "VERSION": VERSION}
+    for name, word in words.items():
+        text = text.replace(f"@{name}@", word)
+    return File(text.encode())
+
+
+def build_library() -> None:
+    """Builds the library, if it isn't there as it is now."""
+    if subprocess.run([ARCHIVE]).returncode:
+        sys.exit("dist: the library can't be built, as it says above")
+
+
+def libraries() -> Tree:
+    """Returns the library for C, C++ and Python, once it is built."""
+    build_library()
+    return {
+        **{f"include/{name}": read(TOP / "include", name) for name in HEADERS},
+        **{f"lib/python/{name}": read(TOP / "lib" / "python", name) for name in MODULES},
+        "lib/libaig.a": File(library("libaig.a").read_bytes()),
+        f"lib/{SONAME}": File(library("libaig.so").read_bytes()),
+        "lib/libaig.so": Link(SONAME),
+        "lib/pkgconfig/aig.pc": pkg_config(MOVABLE, "lib", RPATH),
+    }
+
+
+def environment() -> Tree:
+    """Returns the links by which a prefix that is an environment of Python's finds the modules."""
+    site = "lib/python{}.{}/site-packages".format(*sys.version_info[:2])
+    return {f"{site}/{name}": Link(f"../../python/{name}") for name in MODULES}
+
+
+def pages() -> Tree:
+    """Returns the man pages."""
+    with tempfile.TemporaryDirectory() as folder:
+        subprocess.run([sys.executable, TOP / "docs" / "man.py", folder], check=True)
+        made = pathlib.Path(folder)
+        return {f"share/man/man1/{it.name}": read(made, it.name) for it in made.iterdir()}
+
+
+def documents() -> Tree:
+    """Returns the licences of all that is in the programs, and what has changed."""
+    own = {name: read(TOP, name) for name in ["LICENSE", "CHANGELOG.md"]}
+    return below({**own, **notices()}, DOCUMENTS)
+
+
+def programs(known: Release) -> Tree:
+    """Returns all but the library: the programs, what tells of them, and how shells complete their
+    words."""
+    built = {f"bin/{name}": File(program(name).read_bytes(), True) for name in PROGRAMS}
+    return {**built, **prover(known), **pages(), **completions(map(program, PROGRAMS))}

@@ -1,0 +1,85 @@
+//! Simulations in three values, with the names of the crate aig.
+
+use crate::circuit::{literal, Aig};
+use crate::edge::AigEdge;
+use crate::handle_calls as calls;
+use crate::held::{taken, Held};
+use crate::logic::Lbool;
+use std::marker::PhantomData;
+
+/// A simulation of a circuit: the state in which its next step begins, and the values of the nodes in its last step.
+pub struct TernarySimulate<'a> {
+    held: Held,
+    circuit: PhantomData<&'a Aig>,
+}
+
+// SAFETY of each call: a pointer and a length are of a slice that is borrowed for the call, and what is written is apart from it.
+impl<'a> TernarySimulate<'a> {
+    fn empty() -> Self {
+        TernarySimulate { held: Held::simulation(), circuit: PhantomData }
+    }
+
+    /// Returns the simulation of a circuit that begins in `state`, which has a value for each latch, in order.
+    ///
+    /// # Panics
+    ///
+    /// If there are more or fewer values than latches (`latchs`).
+    pub fn new(aig: &'a Aig, state: Vec<Lbool>) -> Self {
+        let (made, state) = (Self::empty(), Lbool::numbers(&state));
+        taken(aig.held().call_with(&made.held, |h, to| unsafe { calls::aig_simulation_new(h, state.as_ptr(), state.len(), to) }));
+        made
+    }
+
+    /// Values one step with these inputs, and moves the state to that which follows.
+    ///
+    /// # Panics
+    ///
+    /// If there are more or fewer values than inputs (`inputs`).
+    pub fn simulate(&mut self, input: Vec<Lbool>) {
+        let input = Lbool::numbers(&input);
+        taken(self.held.call(|h| unsafe { calls::aig_simulation_simulate(h, input.as_ptr(), input.len()) }))
+    }
+
+    /// Returns the value of an edge in the last step.
+    ///
+    /// # Panics
+    ///
+    /// If no step was valued, or the edge isn't one of the circuit (`has_value`).
+    pub fn value(&self, e: AigEdge) -> Lbool {
+        let value = self.held.tell(|h, value| unsafe { calls::aig_simulation_value(h, literal(e), value) });
+        Lbool::values(vec![taken(value)])[0]
+    }
+
+    /// Returns whether a step was valued and the edge is of the circuit.
+    pub fn has_value(&self, e: AigEdge) -> bool {
+        e.node_id() < 1 << 31
+            && taken(self.held.tell(|h, answer| unsafe { calls::aig_simulation_has_value(h, literal(e), answer) }))
+    }
+
+    /// Returns the state in which the next step begins.
+    pub fn state(&self) -> Vec<Lbool> {
+        Lbool::values(taken(self.held.list(1024, |h, out, len, needed| unsafe { calls::aig_simulation_state(h, out, len, needed) })))
+    }
+
+    /// Values steps with these inputs, one after another, and returns the value of an edge in each.
+    ///
+    /// # Panics
+    ///
+    /// If there are more or fewer values than inputs in one of the lists, or the edge isn't one of the circuit.
+    pub fn simulate_all(&mut self, inputs: &[Vec<Lbool>], e: AigEdge) -> Vec<Lbool> {
+        let width = inputs.first().map_or(0, Vec::len);
+        assert!(inputs.iter().all(|input| input.len() == width), "each step has the same number of inputs");
+        let (steps, input) = (inputs.len(), Lbool::numbers(&inputs.concat()));
+        Lbool::values(taken(self.held.list(steps, |h, out, len, needed| unsafe {
+            calls::aig_simulation_simulate_all(h, input.as_ptr(), input.len(), steps, literal(e), out, len, needed)
+        })))
+    }
+}
+
+impl Clone for TernarySimulate<'_> {
+    fn clone(&self) -> Self {
+        let made = Self::empty();
+        taken(self.held.call_with(&made.held, |h, to| unsafe { calls::aig_simulation_clone(h, to) }));
+        made
+    }
+}

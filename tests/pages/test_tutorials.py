@@ -1,0 +1,156 @@
+"""Runs the commands of every page, and compares what they print.
+
+A page is run from its first block to its last, in a new folder that has the examples and links to
+the folders of the repository, with aigprove and aigwaves in the PATH as if they were installed. A
+block with a language and a name, such as `verilog NAME`, is a file. If the repository has this
+file, at that path or in the examples, both have to be the same. Otherwise the page makes it. `cat
+NAME` of a file in Verilog that isn't there writes it as the page shows it. A page needs the tools
+that its commands call.
+
+Engines take turns, so in what aigprove prints a line about a single step on the way is left out,
+and a number that depends on time isn't compared: up to which step assumptions were seen to be met,
+and the seconds of a table. A line `...` stands for any lines.
+"""
+from __future__ import annotations
+
+import os
+import pathlib
+import re
+import shutil
+import subprocess
+from collections.abc import Iterator
+
+import harness
+import pytest
+from harness import TOP, Checks
+
+PROGRAMS = ["aigtool", "aigedit", "aigcheck"]
+LANGUAGES = ["verilog", "systemverilog", "c", "cpp", "python", "rust", "text"]
+BLOCK = re.compile(
+    rf"^```(console|{'|'.join(LANGUAGES)})([^\n]*)\n(.*?)^```$", re.DOTALL | re.MULTILINE
+)
+SHOWN = re.compile(r"^cat (\S+\.s?v)\n$")
+PASSING = re.compile(
+    r"^(?:live: |miter: )?no bad state (?:at|up to|at any step, if none up to) step \d+\n",
+    re.MULTILINE,
+)
+TIMED = re.compile(
+    r"(can be met up to step|^b0 at step) \d+$|(?<=  )\d+\.\d$|(\"seconds\": )[\d.]+", re.MULTILINE
+)
+# The markers of the tools that commands call.
+MARKERS = {
+    "cadical": ["cadical"],
+    "berkeley-abc": ["abc"],
+    "yosys": ["yosys"],
+    "iverilog": ["iverilog"],
+    "aigprove": ["cadical", "yosys"],
+    "pdr": ["abc"],
+    "pkg-config": ["pkgconfig"],
+    "g++": ["cpp"],
+    "cargo": ["cargo"],
+}
+PAGES = [
+    path.relative_to(TOP)
+    for path in [TOP / "README.md", *sorted((TOP / "docs").rglob("*.md"))]
+    if "```console" in path.read_text()
+]
+
+
+def commands(block: str) -> Iterator[tuple[str, str]]:
+    """Yields each command of a block, which begins with `$ ` and goes on after `> `, and what it
+    prints."""
+    for part in re.split(r"^\$ ", block, flags=re.MULTILINE)[1:]:
+        lines = part.splitlines(keepends=True)
+        count = 1
+        while count < len(lines) and lines[count].startswith("> "):
+            count += 1
+        yield lines[0] + "".join(line[2:] for line in lines[1:count]), "".join(lines[count:])
+
+
+def tools_of(page: pathlib.Path) -> list[pytest.MarkDecorator]:
+    """Returns the markers of the tools that the commands of a page call."""
+    called = [
+        command
+        for kind, _, block in BLOCK.findall((TOP / page).read_text())
+        if kind == "console"
+        for command, _ in commands(block)
+    ]
+    words = set(re.findall(r"[\w+-]+", " ".join(called)))
+    return [
+        getattr(pytest.mark, name)
+        for tool, names in MARKERS.items()
+        if tool in words
+        for name in names
+    ]
+
+
+class Reader:
+    """A folder in which a reader follows a page, and the status of the last command."""
+
+    def __init__(self, folder: pathlib.Path) -> None:
+        self.folder, programs = folder / "work", folder / "bin"
+        self.status: int | None = 0
+        programs.mkdir()
+        (programs / "aigwaves").symlink_to(TOP / "examples" / "waves.py")
+        shutil.copytree(TOP / "examples", self.folder)
+        for part in filter(pathlib.Path.is_dir, TOP.glob("[!.]*")):
+            (self.folder / part.name).symlink_to(part)
+        folders = [*(TOP / "crates" / name / "out" for name in PROGRAMS), TOP / "bin", programs]
+        path = os.pathsep.join([*map(str, folders), os.environ["PATH"]])
+        self.environment = {**os.environ, "PATH": path, "LC_ALL": "C.UTF-8"}
+
+    def printed(self, command: str) -> str:
+        """Returns what a command prints to both streams; `$?` in it is the status of the one
+        before."""
+        streams = {"stdin": subprocess.DEVNULL, "stderr": subprocess.STDOUT}
+        words = ["sh", "-c", f"(exit {self.status}); {command}"]
+        self.status, out, _ = harness.run(words, cwd=self.folder, env=self.environment, **streams)
+        return out.decode()
+
+    def write_shown(self, command: str, text: str) -> None:
+        """Writes a design that the page shows by `cat`."""
+        if (found := SHOWN.match(command)) and not (self.folder / found[1]).exists():
+            (self.folder / found[1]).write_text(text)
+
+    def take_file(self, name: str, text: str) -> bool:
+        """Writes a file that the page has; returns whether it is the repository's, if that has one.
+        """
+        path = self.folder / name
+        if path.exists():
+            return path.read_text() == text
+        path.parent.mkdir(parents=True, exist_ok=True)
+        path.write_text(text)
+        return True
+
+
+def settled(text: str) -> str:
+    """Returns what is printed without what depends on time."""
+    return TIMED.sub(lambda found: found[1] or found[2] or "", PASSING.sub("", text))
+
+
+def is_as_shown(shown: str, printed: str) -> bool:
+    """Returns whether the page shows what is printed, if a line `...` stands for any lines."""
+    parts = [re.escape(part) for part in re.split(r"^\.\.\.\n", settled(shown), flags=re.MULTILINE)]
+    return re.fullmatch("(?:.*\n)*".join(parts), settled(printed)) is not None
+
+
+@pytest.mark.parametrize(
+    "page", [pytest.param(page, marks=tools_of(page), id=str(page)) for page in PAGES]
+)
+def test_page(checks: Checks, folder: pathlib.Path, page: pathlib.Path) -> None:
+    """The commands of a page print what it says."""
+    reader = Reader(folder)
+    for kind, words, block in BLOCK.findall((TOP / page).read_text()):
+        name = words.strip()
+        if kind != "console":
+            checks.check(
+                not name or reader.take_file(name, block), f"{name} isn't what {page} shows"
+            )
+            continue
+        for command, printed in commands(block):
+            reader.write_shown(command, printed)
+            given = reader.printed(command)
+            checks.check(
+                is_as_shown(printed, given),
+                f"{command.strip()}\n  wanted {printed}\n  given  {given}",
+            )

@@ -1,0 +1,289 @@
+"""What the tests stand on: where the programs are, how one is run, spelled bytes, and checks that
+are counted."""
+from __future__ import annotations
+
+import argparse
+import compileall
+import contextlib
+import hashlib
+import os
+import pathlib
+import re
+import resource
+import shlex
+import shutil
+import signal
+import subprocess
+import sys
+import tempfile
+from collections.abc import Callable, Iterator, Mapping, Sequence
+from typing import Any
+
+# A word of a command.
+Word = str | bytes | os.PathLike[str]
+TESTS = pathlib.Path(__file__).resolve().parent.parent
+TOP = TESTS.parent
+# So that scripts find the package of aigprove.
+sys.path.append(str(TOP / "lib"))
+# What each program says of wrong words.
+USAGE = {
+    "aigtool": (
+        b"usage: aigtool text FILE, binary FILE OUT, strash FILE, cnf FILE K [raw], query FILE K"
+        b" [raw]\n"
+    ),
+    "aigedit": (
+        b"usage: aigedit [--limit N] refine FILE, reencode FILE, unroll FILE K, move FILE, compress"
+        b" FILE, bads FILE, property FILE N, possible FILE, reduce FILE, cone FILE N, question FILE"
+        b" K, live FILE J, rounds FILE J N, info FILE, [--constraints first|compared] miter FILE"
+        b" OTHER, [--constraints first|compared] miter-alike-by-order FILE OTHER, [--constraints"
+        b" first|compared] miter-alike-by-name FILE OTHER, join FILE CERT, merge FILE OTHER\n"
+    ),
+    "aigcheck": (
+        b"usage: aigcheck [--limit N] [--property N | --possible | --outputs | (--justice J |"
+        b" --endless) [--rounds N]] clauses FILE K [raw], window FILE K [distinct] [raw], refuted"
+        b" FILE K PROOF [raw], inductive FILE K PROOF [distinct] [raw], witness FILE K SOLUTION"
+        b" [raw], run FILE WITNESS, certified FILE CERT BASE STEP [raw], [--constraints"
+        b" first|compared] equal FILE OTHER K PROOF [raw], obligations FILE CERT [raw], bounded"
+        b" FILE K [raw], refuted FILE to K PROOF [raw], witness FILE to K SOLUTION [raw], safe FILE"
+        b" to K BASE STEP [distinct] [raw | raw-base | raw-step], safe FILE each K P0 .. PK STEP"
+        b" [distinct] [raw | raw-base | raw-step], [--constraints first|compared] equal FILE OTHER"
+        b" to K BASE STEP [distinct] [raw | raw-base | raw-step], [--constraints first|compared]"
+        b" equal FILE OTHER by CERT BASE STEP [raw], equal-alike-by-order and equal-alike-by-name"
+        b" as equal, certified FILE WITNESS RESET TRANSITION PROPERTY BASE STEP [raw], obligations"
+        b" FILE WITNESS CONDITION [raw]\n"
+    ),
+}
+TOOL, EDIT, CHECK = (
+    str(TOP / "crates" / name / "out" / name) for name in ["aigtool", "aigedit", "aigcheck"]
+)
+PROVE = str(TOP / "bin" / "aigprove")
+# What makes another form of a circuit by ABC, where latches that are 1 at first are inverted behind
+# it.
+RESYN = (
+    "balance; rewrite; refactor; balance; rewrite; rewrite -z; balance; refactor -z; rewrite -z;"
+    " balance"
+)
+FORMS = {
+    "dc2": "dc2",
+    "resyn2": RESYN,
+    "dch": "dch; strash",
+    "scorr, dc2": "scorr; dc2",
+    "retime, dc2": "retime; strash; dc2",
+    "retime -M 1": "retime -M 1; strash",
+    "retime -M 2": "retime -M 2; strash",
+    "dretime, dc2": "dretime; strash; dc2",
+}
+# How many seconds a program has to end.
+SECONDS = 100
+REPEATED = re.compile(r"\{([^{}]*)\}\*(\d+)")
+SPELLED = re.compile(r"\\n|\\x([0-9a-f]{2})")
+# The file that a program names behind its own name in a line, and the place there.
+NAMED = re.compile(
+    (
+        rb"^(aigcheck|aigedit): (?!query: |window: |base: |step: |reset: |transition: |property:"
+        rb" )[^ :]+: (?:(?:line|byte) \d+: )?"
+    ),
+    re.M,
+)
+# What a program tells of files beside its answer.
+NOTICES = [
+    b"justice and fairness were not looked at", b"compared only on runs that its constraints allow",
+]
+BESIDE = re.compile(rb"^aig(?:check|edit): (?:.*: )?(?:%s)\n" % b"|".join(NOTICES), re.M)
+# How aigcheck's line ends where a proof is refused as one of other clauses is, and what it tells
+# behind that.
+MISFITS = (
+    b"proof step does not follow\n",
+    b"proof step has not the RAT property\n",
+    b"literal of no variable in proof\n",
+    b"number of no clause in proof\n",
+    b"proof ends before the empty clause\n",
+)
+ADVICE = (
+    b"aigcheck: it may be a proof of other clauses: of another K, another file, or the other"
+    b" setting (raw)\n"
+)
+
+
+def compile_aigprove() -> None:
+    """Compiles aigprove's modules, as install does, before it is measured: here Python may be told
+    to keep none."""
+    compileall.compile_dir(TOP / "lib" / "aigprove", quiet=1)
+
+
+def parser(doc: str | None, *programs: str, **numbers: int) -> argparse.ArgumentParser:
+    """The words of a script, with an option for the path of each of these programs, as `--aigtool
+    PATH`: that which `rt run` builds; and with these numbers, of which any at the end may be left
+    out."""
+    made = argparse.ArgumentParser(
+        description=doc, formatter_class=argparse.RawDescriptionHelpFormatter
+    )
+
+    def path(word: str) -> pathlib.Path:
+        return pathlib.Path(word).resolve()
+
+    for name in programs:
+        built = TOP / "crates" / name / "out" / name
+        made.add_argument(
+            f"--{name}", metavar="PATH", type=path, default=built, help="the built program"
+        )
+    for name, default in numbers.items():
+        made.add_argument(name, nargs="?", type=int, default=default)
+    return made
+
+
+class Checks:
+    """Counts the checks of a test. The first that fails ends it."""
+
+    def __init__(self) -> None:
+        self.passed = 0
+
+    def check(self, holds: object, what: str) -> None:
+        """Fails with these words unless something holds."""
+        __tracebackhide__ = True
+        if not holds:
+            raise AssertionError(what)
+        self.passed += 1
+
+    def wants(self, what: object, wanted: object, given: object) -> None:
+        """Fails unless what is given is what is wanted; `what` names the case."""
+        __tracebackhide__ = True
+        if given != wanted:
+            raise AssertionError(f"{what}\n  wanted {wanted}\n  given  {given}")
+        self.passed += 1
+
+
+def run(words: Sequence[Word], **how: Any) -> tuple[int | None, bytes, bytes]:
+    """The status of a program, what it prints, and what it says on standard error, as bytes. One
+    that doesn't end has no status."""
+    streams = {"stdout": subprocess.PIPE, "stderr": subprocess.PIPE}
+    options: dict[str, Any] = {**streams, "timeout": SECONDS, **how}
+    try:
+        done = subprocess.run(words, **options)
+    except subprocess.TimeoutExpired:
+        return None, b"", b"it did not end"
+    return done.returncode, done.stdout or b"", done.stderr or b""
+
+
+def unnamed(said: bytes) -> bytes:
+    """What a program says, without the files that it names and the places there."""
+    return NAMED.sub(rb"\1: ", said)
+
+
+def alone(said: bytes) -> bytes:
+    """What a program says, without what it tells of files beside its answer."""
+    return BESIDE.sub(b"", said)
+
+
+def advised(said: bytes) -> bytes:
+    """What a program says in a line, with what aigcheck tells behind it."""
+    return said + ADVICE * said.endswith(MISFITS)
+
+
+def output(
+    words: Sequence[Word], statuses: Sequence[int] = (0,), **how: Any
+) -> str:
+    """What a program prints to standard output, as a text, where it has one of these statuses."""
+    status, printed, said = run(words, **how)
+    if status not in statuses:
+        why = f"ended with status {status}: {said.decode('utf-8', 'replace')}"
+        raise AssertionError(f"{words[0]!s} {why}\n{shlex.join(map(str, words))}")
+    return printed.decode()
+
+
+def build(words: Sequence[Word]) -> None:
+    """Runs a compiler, which takes longer than what it makes where much else is run beside it."""
+    output(words, timeout=10 * SECONDS)
+
+
+def shown_again(folder: str | os.PathLike[str]) -> str | None:
+    """What check.sh prints of what aigprove kept in a folder, as a text; None where it fails."""
+    environment = {**os.environ, "AIGCHECK": CHECK, "AIGEDIT": EDIT}
+    status, printed, _ = run([os.path.join(folder, "check.sh")], env=environment)
+    return printed.decode() if status == 0 else None
+
+
+def limit(what: int, count: int) -> Callable[[], None]:
+    """What limits a process: a call for `preexec_fn`."""
+    return lambda: resource.setrlimit(what, (count, count))
+
+
+def limit_files(count: int, ignore: bool = True, most: int | None = None) -> Callable[[], None]:
+    """Limits the size of files. A write past that fails where the signal is ignored, and by default
+    ends the program by it. The process may raise the limit to `most`."""
+
+    def before() -> None:
+        if ignore:
+            signal.signal(signal.SIGXFSZ, signal.SIG_IGN)
+        resource.setrlimit(resource.RLIMIT_FSIZE, (count, most or count))
+
+    return before
+
+
+def shim(source: str, folder: pathlib.Path) -> pathlib.Path:
+    """A library that LD_PRELOAD puts before the system's, of a file of C of the folder tests. The
+    compiler is $CC, cc, clang or gcc."""
+    library = folder / f"{pathlib.Path(source).stem}.so"
+    compiler = next(filter(shutil.which, [os.environ.get("CC", "cc"), "clang", "gcc"]), "cc")
+    build([compiler, "-O2", "-shared", "-fPIC", "-o", library, TESTS / source, "-ldl"])
+    return library
+
+
+def write_files(folder: pathlib.Path, files: Mapping[str, bytes]) -> None:
+    for name, data in files.items():
+        (folder / name).write_bytes(data)
+
+
+def repeated(line: str) -> str:
+    """The line with each piece in braces, `{PIECE}*N`, N times, and 2, 4, .. for a `#` in it."""
+
+    def all_of(piece: re.Match[str]) -> str:
+        return "".join(piece[1].replace("#", str(2 * i)) for i in range(1, int(piece[2]) + 1))
+
+    return REPEATED.sub(all_of, line)
+
+
+def spelled(text: str) -> bytes:
+    """The bytes of a text in which `\\n` is a line feed and `\\x` a byte in hexadecimal."""
+
+    def said(found: re.Match[str]) -> str:
+        return chr(int(found[1], 16)) if found[1] else "\n"
+
+    return SPELLED.sub(said, text).encode("latin-1")
+
+
+def rows(path: pathlib.Path) -> list[list[str]]:
+    """The cells of each row of a table, but for empty lines and those that begin with #."""
+    lines = path.read_text(encoding="utf-8").splitlines()
+    return [line.split("\t") for line in lines if line and line[0] != "#"]
+
+
+def title(words: str, *files: bytes) -> bytes:
+    """The title of clauses that aigcheck prints for these words of files of these bytes."""
+    sums = " ".join(hashlib.sha256(data).hexdigest() for data in files)
+    return f"c aigcheck {words} sha256 {sums}\n".encode()
+
+
+def files(path: pathlib.Path) -> dict[str, bytes]:
+    """The bytes of files by their names, as a table has them."""
+    return {name: spelled(text) for name, text in rows(path)}
+
+
+def numbers(*defaults: int) -> list[int]:
+    """The numbers of the command line, and those of these that stand behind as many."""
+    named = {f"NUMBER{place}": default for place, default in enumerate(defaults, 1)}
+    made = parser(sys.modules["__main__"].__doc__, **named)
+    return list(vars(made.parse_args()).values())
+
+
+@contextlib.contextmanager
+def new_folder() -> Iterator[pathlib.Path]:
+    """A new folder, as a path, which is removed again."""
+    with tempfile.TemporaryDirectory() as name:
+        yield pathlib.Path(name)
+
+
+def crates() -> dict[str, str]:
+    """The lines of crates.txt by the crates' names: what each stands on is behind the colon."""
+    lines = (TOP / "crates.txt").read_text().splitlines()
+    return {line.split(":")[0].split()[0]: line for line in lines if line and line[0] != "#"}
