@@ -2,4 +2,4 @@ pub mod InOrder
 pub mod OfFiles
 pub mod Safe
 pub mod FilesRead
-mod Examples
+mod Refuted

@@ -1,10 +1,10 @@
 -- Wrong errors, of which the definitions are false: a certificate is blamed where there is nothing
 -- that it is to stand beside.
 use Rattle.aig_base.proofs.Words.{ℕ, ◌≤◌, arith, length, List, [], ◌∷◌}
+use Rattle.aig_circuit.specs.Circuit.{Circuit}
+use Rattle.aig_edits.specs.Joints.{IsJointOf}
 use Rattle.aig_edits.specs.declared.pair_error.PairError.{PairError}
 use Rattle.aig_edits.specs.declared.pairing.Pairing.TheVariants.{Miter}
-use Rattle.aig_edits.specs.Joints.{IsJointOf}
-use Rattle.aig_circuit.specs.Circuit.{Circuit}
 use Rattle.aig_format.proofs.Words.{File}
 use Rattle.aig_join.specs.declared.comparison.Comparison.{Comparison}
 use Rattle.aig_subjects.specs.Subjects.{IsUnmade}
