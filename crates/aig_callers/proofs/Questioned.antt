@@ -14,6 +14,7 @@ use Rattle.aig_answers.specs.declared.plans.errors.Why.{Why}
 use Rattle.aig_answers.specs.declared.plans.errors.Why.TheVariants as whys
 use Rattle.aig_answers.specs.declared.windows.WindowClauses.{WindowClauses}
 use Rattle.aig_circuit.specs.Circuit.{Circuit}
+use Rattle.aig_edits.specs.declared.pair_error.PairError.TheVariants as pairs
 use Rattle.aig_format.specs.Circuit.{circuit_of}
 use Rattle.aig_format.specs.File.{File}
 use Rattle.aig_format.specs.Fits.{Accepts}
@@ -130,10 +131,11 @@ module _ (laws : Laws) (one : SpellOne) (checked : AreChecked) (limit : ℕ) (q 
           (subst (λ plan. ChecksCircuit given given_failed limit plan tells.0 (p ∷ []) used (Err e))
           (plan_is q) tells.2))
 
-      none_unmade : (e : SubjectError) → ¬ IsUnmade (subjects.File Own) [] e
-      none_unmade (subject_errors.File e) made = made
-      none_unmade (subject_errors.Pair e) made = made
-      none_unmade (subject_errors.Certificate e) made = made
+      some_said : (e : SubjectError) → error_verdicts (subjects.File Own) e ≢ []
+      some_said (subject_errors.File e) is = let no = is in cc
+      some_said (subject_errors.Pair (pairs.Read e)) is = let no = is in cc
+      some_said (subject_errors.Pair e) is = let no = is in cc
+      some_said (subject_errors.Certificate e) is = let no = is in cc
 
       no_unmade : (e : SubjectError) → ¬ IsUnmade (subjects.File Own) (f ∷ []) e
       no_unmade (subject_errors.File e) made = made
@@ -170,40 +172,40 @@ module _ (laws : Laws) (one : SpellOne) (checked : AreChecked) (limit : ℕ) (q 
       no_second Stream said [] value g read = read
       no_second Stream said (x ∷ others) value g read = read
 
-      hidden : (e : SubjectError) (said : List Verdict) (rests : List R)
+      hidden : (e : SubjectError) (said : List Verdict) (rests : List R) → said ≢ []
           → AreReadAs left failed limit Means said (r ∷ []) rests (Err (faults.Subject e))
           → IsHidden said
-      hidden e [] rests read = absurd (none_unmade e read.0)
-      hidden e (Accepted ∷ []) rests read =
+      hidden e [] rests some read = absurd (some refl)
+      hidden e (Accepted ∷ []) rests some read =
           absurd (no_unmade e
           (of_first one limit file f accepts left failed Means r is rests (Err (faults.Subject e))
           read))
-      hidden e (Accepted ∷ v ∷ said) [] read = absurd read
-      hidden e (Accepted ∷ v ∷ said) (rest ∷ others) (told, read) =
+      hidden e (Accepted ∷ v ∷ said) [] some read = absurd read
+      hidden e (Accepted ∷ v ∷ said) (rest ∷ others) some (told, read) =
           absurd (no_second v said others (Err (faults.Subject e)) read.file read.means)
-      hidden e (TooMany ∷ said) [] read = absurd read
-      hidden e (TooMany ∷ said) (rest ∷ others) (told, same) =
+      hidden e (TooMany ∷ said) [] some read = absurd read
+      hidden e (TooMany ∷ said) (rest ∷ others) some (told, unmade, same) =
           inl (not_settled rest TooMany told (λ is. let no = is in cc))
-      hidden e (TooLarge ∷ said) [] read = absurd read
-      hidden e (TooLarge ∷ said) (rest ∷ others) (told, same) =
+      hidden e (TooLarge ∷ said) [] some read = absurd read
+      hidden e (TooLarge ∷ said) (rest ∷ others) some (told, unmade, same) =
           inl (not_settled rest TooLarge told (λ is. let no = is in cc))
-      hidden e (NoBads ∷ said) [] read = absurd read
-      hidden e (NoBads ∷ said) (rest ∷ others) (told, same) =
+      hidden e (NoBads ∷ said) [] some read = absurd read
+      hidden e (NoBads ∷ said) (rest ∷ others) some (told, unmade, same) =
           inl (not_settled rest NoBads told (λ is. let no = is in cc))
-      hidden e (Crowded ∷ said) [] read = absurd read
-      hidden e (Crowded ∷ said) (rest ∷ others) (told, same) =
+      hidden e (Crowded ∷ said) [] some read = absurd read
+      hidden e (Crowded ∷ said) (rest ∷ others) some (told, unmade, same) =
           inl (not_settled rest Crowded told (λ is. let no = is in cc))
-      hidden e (Refused ∷ said) [] read = absurd read
-      hidden e (Refused ∷ said) (rest ∷ others) (told, same) =
+      hidden e (Refused ∷ said) [] some read = absurd read
+      hidden e (Refused ∷ said) (rest ∷ others) some (told, unmade, same) =
           inl (not_settled rest Refused told (λ is. let no = is in cc))
-      hidden e (Short ∷ said) [] read = absurd read
-      hidden e (Short ∷ said) (rest ∷ others) (told, same) =
+      hidden e (Short ∷ said) [] some read = absurd read
+      hidden e (Short ∷ said) (rest ∷ others) some (told, unmade, same) =
           inl (not_settled rest Short told (λ is. let no = is in cc))
-      hidden e (Memory ∷ said) [] read = absurd read
-      hidden e (Memory ∷ said) (rest ∷ others) (told, same) =
+      hidden e (Memory ∷ said) [] some read = absurd read
+      hidden e (Memory ∷ said) (rest ∷ others) some (told, unmade, same) =
           inl (not_settled rest Memory told (λ is. let no = is in cc))
-      hidden e (Stream ∷ said) [] read = absurd read
-      hidden e (Stream ∷ said) (rest ∷ others) (told, same) =
+      hidden e (Stream ∷ said) [] some read = absurd read
+      hidden e (Stream ∷ said) (rest ∷ others) some (told, unmade, same) =
           inl (not_settled rest Stream told (λ is. let no = is in cc))
 
       hindered : (e : GoalFault) → Checks (Err e) → IsOfFault (subjects.File Own) e
@@ -212,7 +214,7 @@ module _ (laws : Laws) (one : SpellOne) (checked : AreChecked) (limit : ℕ) (q 
           (of_first one limit file f accepts left failed Means r is after (Err (faults.Plan e))
           checks.reads.reads)
       hindered (faults.Subject e) checks =
-          hidden e (error_verdicts (subjects.File Own) e) after checks.reads.reads
+          hidden e (error_verdicts (subjects.File Own) e) after (some_said e) checks.reads.reads
       hindered faults.Memory checks = tt
 
       abbrev Answers : Result (List ℕ) CheckError → Type 0

@@ -1,5 +1,5 @@
 -- What is told of the files of a subject, from what is told of each.
-use Rattle.aig_base.proofs.Words.{◌≡◌, ◌<◌, ◌≤◌, ◌^◌, ◌-◌, ℕ, arith, get_or, length, set, Bool, List, [], ◌∷◌, Option, Result, Ok, Err, All, IfErr, IfOk, ap, refl, subst, sym, ◌++◌, replicate}
+use Rattle.aig_base.proofs.Words.{◌≡◌, ◌≢◌, ◌<◌, ◌≤◌, ◌^◌, ◌-◌, ℕ, arith, get_or, length, set, Bool, List, [], ◌∷◌, Option, Result, Ok, Err, All, IfErr, IfOk, ap, refl, subst, sym, ◌++◌, replicate}
 use Rattle.aig_circuit.specs.Circuit.{Circuit, IsCircuit, IsClosed}
 use Rattle.aig_circuit.specs.Edges.{HasConstantInit}
 use Rattle.aig_circuit.specs.View.{lists_circuit}
@@ -69,9 +69,9 @@ module _ {S T : Type 0} (left : S → Option (List ℕ)) (failed : S → Bool) (
   -- FILE is refused, or nothing is made of it
   pub file_refused : (own : FileSubject) (e : EditError) (r rest : S) (more : List S)
       → ReadsFile left failed limit (GivesFile own) edit_verdict IsEditOwn r (Err e) rest
-      → ((f : File) → IsUnmadeFile own f e → Means (f ∷ []) value)
+      → ((f : File) → IsUnmadeFile own f e → Means (f ∷ []) value) → Means [] value
       → AreReadAs left failed limit Means (edit_verdict e ∷ []) (r ∷ more) (rest ∷ more) value
-  file_refused own e r rest more told so =
+  file_refused own e r rest more told so refused =
       first_said left failed limit Means (edit_verdict e) [] r rest more more value told.verdict
       (λ taken.
       let read = told.answer taken in
@@ -81,7 +81,7 @@ module _ {S T : Type 0} (left : S → Option (List ℕ)) (failed : S → Bool) (
         holds = read.holds;
         means = (so read.file read.means, refl);
         taken = read.taken;
-      }) (λ not. refl)
+      }) (λ not. refused) (λ not. refl)
 
   -- it is taken
   pub file_taken : (own : FileSubject) (lists : CircuitLists) (r rest : S) (said : List Verdict)
@@ -107,9 +107,10 @@ module _ {S T : Type 0} (left : S → Option (List ℕ)) (failed : S → Bool) (
       (more : List S)
       → ReadsFile left failed limit (GivesBeside own) certificate_verdict IsOfCertificate s x other
       → ((g : File) → GivesBeside own g x → Means (g ∷ []) value)
+      → (verdict_by certificate_verdict x ≢ Accepted → Means [] value)
       → AreReadAs left failed limit Means (verdict_by certificate_verdict x ∷ []) (s ∷ more)
       (other ∷ more) value
-  certificate_read own x s other more told so =
+  certificate_read own x s other more told so refused =
       first_said left failed limit Means (verdict_by certificate_verdict x) [] s other more more
       value told.verdict
       (λ taken.
@@ -120,7 +121,7 @@ module _ {S T : Type 0} (left : S → Option (List ℕ)) (failed : S → Bool) (
         holds = read.holds;
         means = (so read.file read.means, refl);
         taken = read.taken;
-      }) (λ not. refl)
+      }) refused (λ not. refl)
 
   module _ (comparison : Comparison) (r s rest other : S) where
     abbrev ReadsTwo : Result CircuitLists PairError → Type 0
@@ -161,9 +162,10 @@ module _ {S T : Type 0} (left : S → Option (List ℕ)) (failed : S → Bool) (
     second_said : (e : PairError) (v : Verdict) (more : List S) → ReadsTwo (Err e)
         → first_verdict e ≡ Accepted → second_verdict e ≡ v
         → ((f g : File) → IsRefusalOf (Miter comparison) f g e → Means (f ∷ g ∷ []) value)
+        → ((f : File) → Means (f ∷ []) value)
         → AreReadAs left failed limit Means (Accepted ∷ v ∷ []) (r ∷ s ∷ more)
         (rest ∷ other ∷ more) value
-    second_said e Accepted more told first second so =
+    second_said e Accepted more told first second so refused =
         let f = told.answer first second in
         let g = f.means in (
           subst (Judges (λ _. Accepted) limit (left r) (left rest) (failed rest)) first told.verdict,
@@ -185,7 +187,7 @@ module _ {S T : Type 0} (left : S → Option (List ℕ)) (failed : S → Bool) (
             taken = f.taken;
           },
         )
-    second_said e v more told first second so =
+    second_said e v more told first second so refused =
         let said = subst (Judges (λ _. Accepted) limit (left r) (left rest) (failed rest)) first
         told.verdict in
         let f = said.file tt in (
@@ -197,6 +199,7 @@ module _ {S T : Type 0} (left : S → Option (List ℕ)) (failed : S → Bool) (
             means = (
               subst (Judges (λ _. Accepted) limit (left s) (left other) (failed other)) second
                   (told.other_verdict first),
+              refused f.file,
               refl,
             );
             taken = f.taken;
@@ -205,14 +208,16 @@ module _ {S T : Type 0} (left : S → Option (List ℕ)) (failed : S → Bool) (
 
     pub two_refused : (e : PairError) (more : List S) → ReadsTwo (Err e)
         → ((f g : File) → IsRefusalOf (Miter comparison) f g e → Means (f ∷ g ∷ []) value)
+        → Means [] value → ((f : File) → Means (f ∷ []) value)
         → AreReadAs left failed limit Means (pair_verdicts e) (r ∷ s ∷ more) (rest ∷ other ∷ more)
         value
-    two_refused (pairs.Read e) more told so =
+    two_refused (pairs.Read e) more told so refused second =
         first_said left failed limit Means (verdict_of e) [] r rest (s ∷ more) (other ∷ more) value
         told.verdict
         (λ taken. absurd (of_no_file e (subst IsOfFile (sym taken) tt)))
-        (λ not. ap (λ o. o ∷ more) (told.unread not))
-    two_refused e more told so = second_said e (second_verdict e) more told refl refl so
+        (λ not. refused) (λ not. ap (λ o. o ∷ more) (told.unread not))
+    two_refused e more told so refused second =
+        second_said e (second_verdict e) more told refl refl so second
 
 -- ---- of one file
 
@@ -338,6 +343,13 @@ certified_given own f g made is (Ok lists) gives = (made, is, gives)
 certified_given own f g made is (Err (errors.Certificate e)) gives = (made, is, gives)
 certified_given own f g made is (Err e) gives = absurd gives
 
+-- or that circuit alone, where the certificate is refused
+certified_begun : (own : FileSubject) (f : File) (made : Circuit) → IsFileSubject own f made
+    → (x : Result CircuitLists SubjectError) → verdict_by certificate_verdict x ≢ Accepted
+    → Gives (subjects.Certified own) (f ∷ []) x
+certified_begun own f made is (Err (errors.Certificate e)) refused = (made, is)
+certified_begun own f made is x refused = absurd (refused refl)
+
 -- and a miter's
 miter_given : (comparison : Comparison) (f g h : File) (miter : Circuit)
     → IsJointOf (Miter comparison) f g miter
@@ -347,6 +359,13 @@ miter_given comparison f g h miter is (Ok lists) gives = (miter, is, gives)
 miter_given comparison f g h miter is (Err (errors.Certificate e)) gives = (miter, is, gives)
 miter_given comparison f g h miter is (Err e) gives = absurd gives
 
+miter_begun : (comparison : Comparison) (f g : File) (miter : Circuit)
+    → IsJointOf (Miter comparison) f g miter
+    → (x : Result CircuitLists SubjectError) → verdict_by certificate_verdict x ≢ Accepted
+    → Gives (subjects.MiterCertified comparison) (f ∷ g ∷ []) x
+miter_begun comparison f g miter is (Err (errors.Certificate e)) refused = (miter, is)
+miter_begun comparison f g miter is x refused = absurd (refused refl)
+
 module _ {S : Type 0} (left : S → Option (List ℕ)) (failed : S → Bool) (limit : ℕ) where
   -- nothing is made of FILE
   pub unmade : (subject : Subject) (own : FileSubject) (e : EditError) (files : List S) (d rest : S)
@@ -354,12 +373,13 @@ module _ {S : Type 0} (left : S → Option (List ℕ)) (failed : S → Bool) (li
       → ReadsFile left failed limit (GivesFile own) edit_verdict IsEditOwn (get_or files 0 d) (Err e)
       rest
       → ((f : File) → IsUnmadeFile own f e → Gives subject (f ∷ []) (Err (errors.File e)))
+      → Gives subject [] (Err (errors.File e))
       → ReadsFiles left failed limit (verdicts subject) (Gives subject) IsOwn files
       (Err (errors.File e)) (set files 0 rest)
-  unmade subject own e [] d rest some told so = absurd (omega (arith, some))
-  unmade subject own e (r ∷ more) d rest some told so = record {
+  unmade subject own e [] d rest some told so refused = absurd (omega (arith, some))
+  unmade subject own e (r ∷ more) d rest some told so refused = record {
     reads = file_refused left failed limit (Gives subject) (Err (errors.File e)) own e r rest more
-        told so;
+        told so refused;
     own = told.own;
   }
 
@@ -394,7 +414,8 @@ module _ {S : Type 0} (left : S → Option (List ℕ)) (failed : S → Bool) (li
         (verdict_by certificate_verdict x ∷ []) (s ∷ more) (other ∷ more) told
         (λ f is. certificate_read left failed limit (λ files. Gives (subjects.Certified own) (f ∷ files))
         x (lists_circuit lists) x s other more beside
-        (λ g. certified_given own f g (lists_circuit lists) is x)));
+        (λ g. certified_given own f g (lists_circuit lists) is x)
+        (certified_begun own f (lists_circuit lists) is x)));
     own = certificate_own x beside.own;
   }
   certified_made own lists [] d rest e other x two told beside = absurd (omega (arith, two))
@@ -405,16 +426,19 @@ module _ {S : Type 0} (left : S → Option (List ℕ)) (failed : S → Bool) (li
       (files after : List S) → ReadsMiter left failed limit comparison files (Err e) after
       → ((f g : File) → IsRefusalOf (Miter comparison) f g e
       → Gives subject (f ∷ g ∷ []) (Err (errors.Pair e)))
+      → Gives subject [] (Err (errors.Pair e))
+      → ((f : File) → Gives subject (f ∷ []) (Err (errors.Pair e)))
       → ReadsFiles left failed limit (verdicts subject) (Gives subject) IsOwn files
       (Err (errors.Pair e)) after
-  miter_refused subject comparison e (r ∷ s ∷ more) (rest ∷ other ∷ others) told so = record {
-    reads = subst (λ o. AreReadAs left failed limit (Gives subject) (pair_verdicts e) (r ∷ s ∷ more)
-        (rest ∷ other ∷ o) (Err (errors.Pair e))) (sym told.1)
-        (two_refused left failed limit (Gives subject) (Err (errors.Pair e)) comparison r s rest other e
-        more told.0 so);
-    own = told.0.own;
-  }
-  miter_refused subject comparison e files after told so = absurd told
+  miter_refused subject comparison e (r ∷ s ∷ more) (rest ∷ other ∷ others) told so refused second =
+      record {
+        reads = subst (λ o. AreReadAs left failed limit (Gives subject) (pair_verdicts e) (r ∷ s ∷ more)
+            (rest ∷ other ∷ o) (Err (errors.Pair e))) (sym told.1)
+            (two_refused left failed limit (Gives subject) (Err (errors.Pair e)) comparison r s rest other e
+            more told.0 so refused second);
+        own = told.0.own;
+      }
+  miter_refused subject comparison e files after told so refused second = absurd told
 
   -- the miter
   pub miter_made : (comparison : Comparison) (lists : CircuitLists) (files after : List S)
@@ -450,7 +474,8 @@ module _ {S : Type 0} (left : S → Option (List ℕ)) (failed : S → Bool) (li
             (certificate_read left failed limit
             (λ files. Gives (subjects.MiterCertified comparison) (f ∷ g ∷ files)) x
             (lists_circuit lists) x t last others beside
-            (λ h. miter_given comparison f g h (lists_circuit lists) is x))));
+            (λ h. miter_given comparison f g h (lists_circuit lists) is x)
+            (miter_begun comparison f g (lists_circuit lists) is x))));
         own = certificate_own x beside.own;
       }
   miter_certified comparison lists (r ∷ s ∷ []) mid d last x three told beside =

@@ -13,11 +13,12 @@ module _ {S T : Type 0} (left : S → Option (List ℕ)) (failed : S → Bool) (
       → (v ≡ Accepted → IsReadAs (λ bytes. Accepts bytes limit)
       (λ f. AreReadAs left failed limit (λ files. Means (f ∷ files)) said before after) (left r)
       (left rest) value)
-      → (v ≢ Accepted → after ≡ before)
+      → (v ≢ Accepted → Means [] value) → (v ≢ Accepted → after ≡ before)
       → AreReadAs left failed limit Means (v ∷ said) (r ∷ before) (rest ∷ after) value
-  first_said Means Accepted said r rest before after value told read unread = (told, read refl)
-  first_said Means v said r rest before after value told read unread =
-      (told, unread (λ is. absurd cc))
+  first_said Means Accepted said r rest before after value told read refused unread =
+      (told, read refl)
+  first_said Means v said r rest before after value told read refused unread =
+      (told, refused (λ is. absurd cc), unread (λ is. absurd cc))
 
   -- where all are taken, they are files, for which it is meant
   pub all_read : (n : ℕ) (Means : List File → T → Type 0) (before after : List S) (value : T)
@@ -52,5 +53,6 @@ module _ {S T X : Type 0} (left : S → Option (List ℕ)) (failed : S → Bool)
           taken = read.taken;
         },
       )
-  files_on (v ∷ said) Means Also (r ∷ before) (rest ∷ after) value made told so = told
+  files_on (v ∷ said) Means Also (r ∷ before) (rest ∷ after) value made told so =
+      (told.0, so [] tt told.1, told.2)
   files_on said Means Also before after value made told so = absurd told

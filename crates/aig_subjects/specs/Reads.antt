@@ -8,7 +8,8 @@ use Rattle.aig_reader.specs.Reading.{IsReadAs}
 use Rattle.aig_reader.specs.Verdicts.{Accepted, Judges, Verdict}
 
 -- Each verdict is said of the bytes of a file, in order. Where all of them are taken the value is
--- what is meant for these files, and no file behind them is read; nor is one behind a refused one.
+-- what is meant for these files, and no file behind them is read. Where one is refused the value is
+-- what is meant for those before it, and no file behind it is read.
 abbrev pub AreReadAs : {S T : Type 0} → (S → Option (List ℕ)) → (S → Bool) → ℕ
     → (List File → T → Type 0) → List Verdict → List S → List S → T → Type 0
 AreReadAs left failed limit Means [] before after value = Means [] value × (after ≡ before)
@@ -18,7 +19,8 @@ AreReadAs left failed limit Means (Accepted ∷ said) (r ∷ before) (rest ∷ a
     (λ f. AreReadAs left failed limit (λ files. Means (f ∷ files)) said before after) (left r)
     (left rest) value
 AreReadAs left failed limit Means (v ∷ said) (r ∷ before) (rest ∷ after) value =
-    Judges (λ _. Accepted) limit (left r) (left rest) (failed rest) v × (after ≡ before)
+    Judges (λ _. Accepted) limit (left r) (left rest) (failed rest) v × Means [] value
+    × (after ≡ before)
 AreReadAs left failed limit Means said before after value = ⊥
 
 -- What a call that reads files in order tells: `said` of the bytes of each that it reads, and what

@@ -52,7 +52,23 @@ IsSubject subject files m = ⊥
 abbrev pub IsUnjoined : Circuit → File → PairError → Type 0
 IsUnjoined own certificate e = IsJoinOf pairings.Certificate own (circuit_of certificate) (Err e)
 
--- why there is none, where these files are taken
+-- the error is of the next file, which is refused: that of a certificate only where what it is to
+-- stand beside is made of those before it
+abbrev pub IsOfNext : Subject → List File → SubjectError → Type 0
+IsOfNext (subjects.File own) [] (errors.File e) = Unit {0}
+IsOfNext (subjects.Miter comparison) [] (errors.Pair e) = Unit {0}
+IsOfNext (subjects.Miter comparison) (f ∷ []) (errors.Pair e) = Unit {0}
+IsOfNext (subjects.Certified own) [] (errors.File e) = Unit {0}
+IsOfNext (subjects.Certified own) (f ∷ []) (errors.Certificate e) =
+    (made : Circuit) × IsFileSubject own f made
+IsOfNext (subjects.MiterCertified comparison) [] (errors.Pair e) = Unit {0}
+IsOfNext (subjects.MiterCertified comparison) (f ∷ []) (errors.Pair e) = Unit {0}
+IsOfNext (subjects.MiterCertified comparison) (f ∷ g ∷ []) (errors.Certificate e) =
+    (miter : Circuit) × IsJointOf (pairings.Miter comparison) f g miter
+IsOfNext subject files e = ⊥
+
+-- Why there is none, where just these files are taken: nothing is made of them, or the next one is
+-- refused.
 abbrev pub IsUnmade : Subject → List File → SubjectError → Type 0
 IsUnmade (subjects.File own) (f ∷ []) (errors.File e) = IsUnmadeFile own f e
 IsUnmade (subjects.Miter comparison) (f ∷ g ∷ []) (errors.Pair e) =
@@ -64,7 +80,7 @@ IsUnmade (subjects.MiterCertified comparison) (f ∷ g ∷ []) (errors.Pair e) =
     IsRefusalOf (pairings.Miter comparison) f g e
 IsUnmade (subjects.MiterCertified comparison) (f ∷ g ∷ h ∷ []) (errors.Certificate e) =
     (miter : Circuit) × IsJointOf (pairings.Miter comparison) f g miter × IsUnjoined miter h e
-IsUnmade subject files e = ⊥
+IsUnmade subject files e = IsOfNext subject files e
 
 -- the lists are those of the circuit, or it is said why there are none
 abbrev pub Gives : Subject → List File → Result CircuitLists SubjectError → Type 0

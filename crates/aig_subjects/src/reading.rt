@@ -61,7 +61,8 @@ fn read_certificate<S: Source>(
 }
 
 /// Reads files in the AIGER format, in order, and makes the subject's circuit of them: FILE, then OTHER of a miter, then a certificate.
-/// Each is read only where those before it are taken. Requires `1 <= limit <= 2^31`.
+/// Each is read only where those before it are taken, and a certificate only where the circuit was made that it is to stand beside. Requires
+/// `1 <= limit <= 2^31`.
 ///
 /// # Errors
 ///

@@ -45,7 +45,7 @@ module _ {S : Type 0} (left : S → Option (List ℕ)) (failed : S → Bool) (li
     reads = file_refused left failed limit Means (Err (refusals.File e)) own e r rest (s ∷ [])
         (file_on left failed limit r rest (GivesFile own) edit_verdict IsEditOwn (Err e) told refl
         told.own (λ f fits gives. gives))
-        (λ f is. is);
+        (λ f is. is) tt;
     own = told.own;
   }
 
@@ -71,7 +71,8 @@ module _ {S : Type 0} (left : S → Option (List ℕ)) (failed : S → Bool) (li
           (Err (refusals.Certificate e)) (lists_circuit lists) (Err (refusals.Certificate e)) s other
           [] (file_on left failed limit s other (parts.GivesBeside (lists_circuit lists))
           certificate_verdict IsOfCertificate (Err (refusals.Certificate e)) also refl also.own
-          (λ g fits gives. gives)) (λ g gives. (lists_circuit lists, is, gives)));
+          (λ g fits gives. gives)) (λ g gives. (lists_circuit lists, is, gives))
+          (λ refused. (lists_circuit lists, is)));
       own = also.own;
     }
 
@@ -91,7 +92,8 @@ module _ {S : Type 0} (left : S → Option (List ℕ)) (failed : S → Bool) (li
             gives,
             (told.answer refl).means.1,
             (also.answer refl).means.1,
-          )));
+          ))
+          (λ refused. absurd (refused refl)));
       own = tt;
     }
 

@@ -147,7 +147,7 @@ module _ {S A T : Type 0} (to : S → A) (left : A → Option (List ℕ)) (faile
           after value (λ files. so (f ∷ files))) told.1,
     )
     files_seen (v ∷ said) Means Also (r ∷ before) (rest ∷ after) value so told =
-        (told.0, ap (λ (l : List S). map to l) told.1)
+        (told.0, so [] told.1, ap (λ (l : List S). map to l) told.2)
     files_seen said Means Also before after value so told = absurd told
 
 module _ {S A P B : Type 0} (to : S → A) (left : A → Option (List ℕ)) (failed : A → Bool)

@@ -12,7 +12,7 @@ returns-in_err-read_file_subject-in-File-clause-reads g c =
     (subjects.File own) own c.in_err-read_file_subject-in-File.field-0.0 c.args.files.now
     c.index-files-0.result _
     (let one = rw c.in-File.is at c.requires.each in omega (arith, one))
-    c.in_err-read_file_subject-in-File.ensures.reads (λ f is. is))
+    c.in_err-read_file_subject-in-File.ensures.reads (λ f is. is) tt)
 
 pub returns-in_ok-read_file_subject-in-File-clause-reads :
     goal.returns-in_ok-read_file_subject-in-File-clause-reads
@@ -29,7 +29,7 @@ returns-in_err-read_miter-in-Miter-clause-reads g c =
     let comparison = c.in-Miter.comparison in
     rw (p.1, p.2, c.in-Miter.is) (miter_refused g.S.Source.left g.S.Source.failed c.args.limit
     (subjects.Miter comparison) comparison c.in_err-read_miter-in-Miter.field-0.0 c.args.files.now _
-    c.in_err-read_miter-in-Miter.ensures.reads (λ f h is. is))
+    c.in_err-read_miter-in-Miter.ensures.reads (λ f h is. is) tt (λ f. tt))
 
 pub returns-in_ok-read_miter-in-Miter-clause-reads :
     goal.returns-in_ok-read_miter-in-Miter-clause-reads
@@ -58,7 +58,7 @@ returns-in_err-circuit-in-Certified-clause-reads g c =
     (subjects.Certified own) own c.in_err-circuit-in-Certified.field-0.0 c.args.files.now
     c.index-files-0-in-Certified.result _
     (let two = rw c.in-Certified.is at c.requires.each in omega (arith, two))
-    c.in_err-circuit-in-Certified.ensures.reads (λ f is. is))
+    c.in_err-circuit-in-Certified.ensures.reads (λ f is. is) tt)
 
 pub returns-in_ok-circuit-in-Certified-clause-reads :
     goal.returns-in_ok-circuit-in-Certified-clause-reads
@@ -89,7 +89,7 @@ returns-in_err-miter-in-MiterCertified-clause-reads g c =
     rw (p.1, p.2, c.in-MiterCertified.is) (miter_refused g.S.Source.left g.S.Source.failed
     c.args.limit (subjects.MiterCertified comparison) comparison
     c.in_err-miter-in-MiterCertified.field-0.0 c.args.files.now _
-    c.in_err-miter-in-MiterCertified.ensures.reads (λ f h is. is))
+    c.in_err-miter-in-MiterCertified.ensures.reads (λ f h is. is) tt (λ f. tt))
 
 pub returns-in_ok-miter-in-MiterCertified-clause-reads :
     goal.returns-in_ok-miter-in-MiterCertified-clause-reads
