@@ -72,7 +72,8 @@ def test_linked(checks: Checks, programs: dict[str, pathlib.Path]) -> None:
     listed = {word for part in licences.parts() for word in [part.name, *part.about.split()]}
     listed = {word.rstrip(",") for word in listed}
     checks.check({"core", "std_alloc"} <= linked, "no crate of the kit is seen in the programs")
-    stated = re.findall(r"core::(?:dec2flt|str::two_way|char::(?:\w+_)?(?:tables|extends))", printed)
+    stated = re.findall(r"core::(?:dec2flt|str::two_way|char::(?:tables|case_tables|extends))",
+                        printed)
     checks.wants("parts of core whose texts state a licence", [], stated)
     checks.wants("crates that aren't listed", set(), (named | linked) - listed)
 
