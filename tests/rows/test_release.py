@@ -233,6 +233,17 @@ def test_compared(checks: Checks, folder: pathlib.Path, monkeypatch: pytest.Monk
         checks.wants(known, wanted, prebuilt.compared(now))
 
 
+def test_kept_release(checks: Checks) -> None:
+    """The release in the repository, if there is one, is whole, and its programs can be run."""
+    known, folder = release.read(str(prebuilt.FOLDER)), prebuilt.FOLDER
+    sums, found = known.sums if known else {}, [it for it in folder.rglob("*") if it.is_file()]
+    names = {str(it.relative_to(folder)) for it in found} - {release.FILE}
+    checks.wants("the files", set(sums), names)
+    checks.wants("files that were changed", [], prebuilt.changed(known, folder) if known else [])
+    for name in layout.PROGRAMS if known else ():
+        checks.check(os.access(folder / name, os.X_OK), f"{name} can't be run")
+
+
 def test_first_answers(checks: Checks, aigcheck: pathlib.Path) -> None:
     """What lies in examples/ shows that credits.v fails at step 3, and that it doesn't with its
     guard; the proof of the one is none of the other."""
