@@ -26,7 +26,7 @@ mount -o remount,bind,ro clone
 cd clone
 status=0
 """
-RUN = "sh -c \"(exit $status); $0\" {} > ../given/{} 2>&1 && status=0 || status=$?\n"
+RUN = "sh -c \"(exit $status); \"{} > ../given/{} 2>&1 && status=0 || status=$?\n"
 
 
 def shown(needs: bool) -> list[tuple[str, str]]:
