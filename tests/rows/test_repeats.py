@@ -89,6 +89,13 @@ def test_program(checks: Checks, folder: pathlib.Path) -> None:
     checks.check(not any(str(place).encode() in one for place in places), "a path stands in it")
 
 
+@pytest.mark.prover
+def test_build_starts(checks: Checks) -> None:
+    """./build finds what it imports."""
+    status, printed, said = harness.run([TOP / "build", "--help"])
+    checks.wants("its help", (0, True, b""), (status, b"--jobs" in printed, said))
+
+
 def test_no_path(checks: Checks) -> None:
     """No path stands in the libraries of which programs are built, so theirs doesn't matter."""
     files = [it for it in TOP.glob("crates/*/out/rlib/**/*") if it.is_file()]
