@@ -62,12 +62,13 @@ def test_exported_names(checks: Checks, library: pathlib.Path) -> None:
     checks.wants("the names", wanted, names)
 
 
-def test_linked(checks: Checks, programs: dict[str, pathlib.Path]) -> None:
-    """Each crate of the kit that this repository names or that a program has is in the list of what
-    is linked in."""
+def test_linked(checks: Checks, programs: dict[str, pathlib.Path], library: pathlib.Path) -> None:
+    """Each crate of the kit that this repository names, or that a program or the library has, is in
+    the list of what is linked in."""
     own = {name: line.partition(":")[2].split() for name, line in harness.crates().items()}
     named = {below for line in own.values() for below in line} - own.keys()
-    printed = "".join(harness.output(["nm", path]) for path in programs.values())
+    files = [*programs.values(), library / "libaig.so"]
+    printed = "".join(harness.output(["nm", path]) for path in files)
     linked = set(re.findall(r"(?m) [tT] <?([a-z_0-9]+)::", printed)) - own.keys()
     listed = {word for part in licences.parts() for word in [part.name, *part.about.split()]}
     listed = {word.rstrip(",") for word in listed}
