@@ -20,6 +20,7 @@ from collections.abc import Generator, Iterator
 from typing import Any
 
 import archive
+import fresh_root
 import harness
 import hypothesis
 import pytest
@@ -70,6 +71,8 @@ def pytest_addoption(parser: pytest.Parser) -> None:
         path = harness.TOP / "crates" / name / "out" / name
         group.addoption(f"--{name}", metavar="PATH", default=str(path), help="the built program")
     group.addoption("--library", metavar="FOLDER", help="where libaig.a and libaig.so are built")
+    group.addoption("--root", metavar="FOLDER", default="/", help="the system on which packages "
+                    "are tried, such as debootstrap makes one (this one)")
     group.addoption("--by-module", action="store_true", help="print counts and seconds by module")
     group.addoption("--long", action="store_true", help="try many random cases")
     group.addoption("--seed", type=int, default=1, help="which random cases are tried (1)")
@@ -79,6 +82,7 @@ def pytest_configure(config: pytest.Config) -> None:
     """Chooses how many random cases are tried, and where those that fail are kept."""
     strategies.is_long = bool(config.getoption("--long"))
     strategies.seed = int(config.getoption("--seed"))
+    fresh_root.lower = pathlib.Path(str(config.getoption("--root"))).resolve()
     hypothesis.settings.register_profile(
         "aig",
         deadline=None,

@@ -7,6 +7,7 @@ import functools
 import hashlib
 import json
 import os
+import re
 import sys
 from collections.abc import Iterator
 from typing import NamedTuple
@@ -14,6 +15,8 @@ from typing import NamedTuple
 from aigprove import VERSION
 
 FILE, PREBUILT = "release.json", "prebuilt"
+# What the programs of a release need: a machine, and a version of the C library.
+MACHINE, GLIBC = "x86_64", (2, 34)
 # What builds and tests leave in the folders of crates.
 LEFT = {"out", "__pycache__"}
 
@@ -87,23 +90,51 @@ def of_clone(top: str) -> Release | None:
     return known if known and known.tree == tree_of(os.path.join(top, "crates")) else None
 
 
+def unfit() -> str:
+    """Returns why the programs of a release can't run on this system; nothing if they can."""
+    machine, name = os.uname().machine, "CS_GNU_LIBC_VERSION"
+    library = os.confstr(name) if name in os.confstr_names else None
+    number = [int(it) for it in re.findall("[0-9]+", library or "")]
+    if machine == MACHINE and (*number,) >= GLIBC:
+        return ""
+    return "need Linux on x86-64 with glibc {}.{} or later, and this is {} with {}".format(
+        *GLIBC, machine, library or "another C library")
+
+
+def hint(top: str, name: str, is_prebuilt: bool) -> str:
+    """Returns why a program in prebuilt/ of a clone isn't run, as the end of a message; nothing if
+    there is no such folder."""
+    known = read(os.path.join(top, PREBUILT))
+    if not known:
+        return ""
+    if why := unfit():
+        return f"; the programs in {PREBUILT}/ {why}"
+    if is_prebuilt or of_clone(top):
+        return f"; {PREBUILT}/{name} isn't there, or may not be executed"
+    return f"; --prebuilt runs the programs of release {known.version}, which were built from " \
+        "other crates"
+
+
 def places(top: str, name: str, is_prebuilt: bool) -> Iterator[str]:
     """Yields where a program may be, in order: where programs are installed below a folder, beside
     the script that runs, where they are built, in prebuilt/ if that is of the same crates, and in
-    PATH. Yields prebuilt/ alone if its programs are asked for."""
+    PATH. Yields prebuilt/ alone if its programs are asked for. Those have to run on this system."""
     if not is_prebuilt:
         beside = os.path.dirname(os.path.realpath(sys.argv[0]))
         for folder in [os.path.join(top, "bin"), beside, os.path.join(top, "crates", name, "out")]:
             yield os.path.join(folder, name)
-    if is_prebuilt or of_clone(top):
+    if not unfit() and (is_prebuilt or of_clone(top)):
         yield os.path.join(top, PREBUILT, name)
     if not is_prebuilt:
         yield name
 
 
-def programs(top: str) -> str:
-    """Returns which release, crates and kit the programs below a folder are of."""
+def programs(top: str, is_prebuilt: bool) -> str:
+    """Returns which release, crates and kit the programs below a folder are of, which may be those
+    in prebuilt/."""
     crates = os.path.join(top, "crates")
+    if is_prebuilt and (known := read(os.path.join(top, PREBUILT))):
+        return str(known)
     if not os.path.isdir(crates):
         return str(read(os.path.dirname(os.path.realpath(__file__))) or "of an unknown release")
     if os.path.exists(os.path.join(crates, "aigcheck", "out", "aigcheck")):
@@ -111,6 +142,6 @@ def programs(top: str) -> str:
     return str(of_clone(top) or f"not built, crates {tree_of(crates)}")
 
 
-def version(top: str) -> str:
+def version(top: str, is_prebuilt: bool) -> str:
     """Returns what --version prints."""
-    return f"aigprove {VERSION}\nprograms: {programs(top)}\n"
+    return f"aigprove {VERSION}\nprograms: {programs(top, is_prebuilt)}\n"

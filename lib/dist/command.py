@@ -35,15 +35,18 @@ programs make the same bytes.
 """
 
 
+def git(*words: str) -> str:
+    """Returns what git prints of this repository; nothing if there is no commit."""
+    done = subprocess.run(["git", "-C", str(TOP), *words], capture_output=True)
+    return "" if done.returncode else done.stdout.decode().strip()
+
+
 def epoch() -> int:
     """Returns the time of all files, in seconds since 1970."""
-    if given := os.environ.get("SOURCE_DATE_EPOCH"):
-        return int(given)
-    words = ["git", "-C", str(TOP), "log", "-1", "--format=%ct"]
-    done = subprocess.run(words, capture_output=True)
-    if done.returncode:
+    given = os.environ.get("SOURCE_DATE_EPOCH") or git("log", "-1", "--format=%ct")
+    if not given:
         sys.exit("dist: SOURCE_DATE_EPOCH isn't set, and there is no commit whose time is taken")
-    return int(done.stdout)
+    return int(given)
 
 
 def needed() -> tuple[int, int]:
@@ -138,6 +141,14 @@ def complete() -> Release:
     return known
 
 
+def make_release() -> None:
+    """Puts what was built into the repository, as the release of crates that are committed."""
+    known = complete()
+    if known.tree != git("rev-parse", "HEAD:crates"):
+        sys.exit("dist: crates/ isn't as it is in the last commit: see git status --short crates")
+    prebuilt.refresh(known, epoch())
+
+
 def compare() -> int:
     """Compares what was built with the release in the repository, and returns the exit status."""
     now = current()
@@ -173,7 +184,7 @@ def main() -> int:
     if words.install:
         install(words.install)
     elif words.release:
-        prebuilt.refresh(complete(), epoch())
+        make_release()
     else:
         make(words.out)
     return 0

@@ -127,8 +127,11 @@ def rust_faults(text, sources):
 
 
 def host_faults():
-    """The hosts that files of the repository name and may not, each with its file."""
-    listed = harness.output(["git", "grep", "-I", "-E", r"[a-z]+://[a-z]"], cwd=TOP)
+    """The hosts that files of the repository name and may not, each with its file.
+
+    Licences of others are left out, which lie in prebuilt/."""
+    words = ["git", "grep", "-I", "-E", r"[a-z]+://[a-z]", "--", ".", ":!prebuilt/licences"]
+    listed = harness.output(words, cwd=TOP)
     for path, text in (line.split(":", 1) for line in listed.splitlines()):
         yield from (
             f"{path}: names the host {host}" for host in HOST.findall(text) if host not in HOSTS

@@ -6,10 +6,6 @@ block with a language and a name, such as `verilog NAME`, is a file. If the repo
 file, at that path or in the examples, both have to be the same. Otherwise the page makes it. `cat
 NAME` of a file in Verilog that isn't there writes it as the page shows it. A page needs the tools
 that its commands call.
-
-Engines take turns, so in what aigprove prints a line about a single step on the way is left out,
-and a number that depends on time isn't compared: up to which step assumptions were seen to be met,
-and the seconds of a table. A line `...` stands for any lines.
 """
 from __future__ import annotations
 
@@ -18,25 +14,14 @@ import pathlib
 import re
 import shutil
 import subprocess
-from collections.abc import Iterator
 
 import harness
 import pytest
 from harness import TOP, Checks
+from shown import BLOCK, commands, is_as_shown
 
 PROGRAMS = ["aigtool", "aigedit", "aigcheck"]
-LANGUAGES = ["verilog", "systemverilog", "c", "cpp", "python", "rust", "text"]
-BLOCK = re.compile(
-    rf"^```(console|{'|'.join(LANGUAGES)})([^\n]*)\n(.*?)^```$", re.DOTALL | re.MULTILINE
-)
 SHOWN = re.compile(r"^cat (\S+\.s?v)\n$")
-PASSING = re.compile(
-    r"^(?:live: |miter: )?no bad state (?:at|up to|at any step, if none up to) step \d+\n",
-    re.MULTILINE,
-)
-TIMED = re.compile(
-    r"(can be met up to step|^b0 at step) \d+$|(?<=  )\d+\.\d$|(\"seconds\": )[\d.]+", re.MULTILINE
-)
 # The markers of the tools that commands call.
 MARKERS = {
     "cadical": ["cadical"],
@@ -54,17 +39,6 @@ PAGES = [
     for path in [TOP / "README.md", *sorted((TOP / "docs").rglob("*.md"))]
     if "```console" in path.read_text()
 ]
-
-
-def commands(block: str) -> Iterator[tuple[str, str]]:
-    """Yields each command of a block, which begins with `$ ` and goes on after `> `, and what it
-    prints."""
-    for part in re.split(r"^\$ ", block, flags=re.MULTILINE)[1:]:
-        lines = part.splitlines(keepends=True)
-        count = 1
-        while count < len(lines) and lines[count].startswith("> "):
-            count += 1
-        yield lines[0] + "".join(line[2:] for line in lines[1:count]), "".join(lines[count:])
 
 
 def tools_of(page: pathlib.Path) -> list[pytest.MarkDecorator]:
@@ -95,9 +69,17 @@ class Reader:
         shutil.copytree(TOP / "examples", self.folder)
         for part in filter(pathlib.Path.is_dir, TOP.glob("[!.]*")):
             (self.folder / part.name).symlink_to(part)
+        if not (self.folder / "prebuilt").exists():
+            self.stand_in(self.folder / "prebuilt")
         folders = [*(TOP / "crates" / name / "out" for name in PROGRAMS), TOP / "bin", programs]
         path = os.pathsep.join([*map(str, folders), os.environ["PATH"]])
         self.environment = {**os.environ, "PATH": path, "LC_ALL": "C.UTF-8"}
+
+    def stand_in(self, prebuilt: pathlib.Path) -> None:
+        """Puts what was built in the place of the programs of a release, before there is one."""
+        prebuilt.mkdir()
+        for name in PROGRAMS:
+            (prebuilt / name).symlink_to(TOP / "crates" / name / "out" / name)
 
     def printed(self, command: str) -> str:
         """Returns what a command prints to both streams; `$?` in it is the status of the one
@@ -121,17 +103,6 @@ class Reader:
         path.parent.mkdir(parents=True, exist_ok=True)
         path.write_text(text)
         return True
-
-
-def settled(text: str) -> str:
-    """Returns what is printed without what depends on time."""
-    return TIMED.sub(lambda found: found[1] or found[2] or "", PASSING.sub("", text))
-
-
-def is_as_shown(shown: str, printed: str) -> bool:
-    """Returns whether the page shows what is printed, if a line `...` stands for any lines."""
-    parts = [re.escape(part) for part in re.split(r"^\.\.\.\n", settled(shown), flags=re.MULTILINE)]
-    return re.fullmatch("(?:.*\n)*".join(parts), settled(printed)) is not None
 
 
 @pytest.mark.parametrize(

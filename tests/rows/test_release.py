@@ -3,6 +3,7 @@
 The trees of crates are compared with those that git makes."""
 from __future__ import annotations
 
+import argparse
 import json
 import os
 import pathlib
@@ -14,7 +15,7 @@ import archive
 import harness
 import pytest
 from aigprove import VERSION, release
-from dist import exports, layout, licences, prebuilt
+from dist import elf, exports, layout, licences, prebuilt
 from dist.files import File, sum_of
 from harness import TOP, Checks
 
@@ -61,17 +62,39 @@ def test_exported_names(checks: Checks, library: pathlib.Path) -> None:
     checks.wants("the names", wanted, names)
 
 
-def test_linked(checks: Checks, programs: dict[str, pathlib.Path]) -> None:
-    """Each crate of the kit that this repository names or that a program has is in the list of what
-    is linked in."""
+def test_linked(checks: Checks, programs: dict[str, pathlib.Path], library: pathlib.Path) -> None:
+    """Each crate of the kit that this repository names, or that a program or the library has, is in
+    the list of what is linked in."""
     own = {name: line.partition(":")[2].split() for name, line in harness.crates().items()}
     named = {below for line in own.values() for below in line} - own.keys()
-    printed = "".join(harness.output(["nm", path]) for path in programs.values())
+    files = [*programs.values(), library / "libaig.so"]
+    printed = "".join(harness.output(["nm", path]) for path in files)
     linked = set(re.findall(r"(?m) [tT] <?([a-z_0-9]+)::", printed)) - own.keys()
     listed = {word for part in licences.parts() for word in [part.name, *part.about.split()]}
     listed = {word.rstrip(",") for word in listed}
     checks.check({"core", "std_alloc"} <= linked, "no crate of the kit is seen in the programs")
+    stated = re.findall(r"core::(?:dec2flt|str::two_way|char::(?:tables|case_tables|extends))",
+                        printed)
+    checks.wants("parts of core whose texts state a licence", [], stated)
     checks.wants("crates that aren't listed", set(), (named | linked) - listed)
+
+
+def test_systems(checks: Checks, programs: dict[str, pathlib.Path],
+                 monkeypatch: pytest.MonkeyPatch) -> None:
+    """Programs of a release are for a machine and a C library, which has what they ask for."""
+    checks.wants("the C library", elf.glibc(programs.values()), release.GLIBC)
+    needs = "need Linux on x86-64 with glibc 2.34 or later, and this is"
+    for machine, version, wanted in [
+        ("x86_64", "glibc 2.34", ""), ("x86_64", "glibc 2.100", ""), ("x86_64", "glibc 3.0", ""),
+        ("x86_64", "glibc 2.9", f"{needs} x86_64 with glibc 2.9"),
+        ("aarch64", "glibc 2.41", f"{needs} aarch64 with glibc 2.41"),
+        ("x86_64", None, f"{needs} x86_64 with another C library"),
+    ]:
+        monkeypatch.setattr(os, "uname", lambda: argparse.Namespace(machine=machine))
+        monkeypatch.setattr(os, "confstr", lambda _: version)
+        checks.wants((machine, version), wanted, release.unfit())
+    monkeypatch.setattr(os, "confstr_names", {})
+    checks.check("another C library" in release.unfit(), "a C library without a version")
 
 
 def test_tree(checks: Checks, folder: pathlib.Path) -> None:
@@ -127,29 +150,60 @@ class Clone:
         environment = {**os.environ, "PATH": "/usr/bin:/bin"}
         return harness.run(line, cwd=self.folder, env=environment)
 
+    def told(self, *words: str) -> str:
+        """Returns which programs aigprove says it runs."""
+        said = self.answer(*words, "--version")[1].decode()
+        return said.removeprefix(f"aigprove {VERSION}\nprograms: ").rstrip("\n")
+
+
+# What is said if nothing is built.
+ABSENT = b"aigprove: aigtool was not found; " \
+    b"./build builds aigtool, and so does `rt run` in crates/aigtool"
+OLDER = b"; --prebuilt runs the programs of release 7.8.9, which were built from other crates"
+
 
 def test_prebuilt_programs(checks: Checks, folder: pathlib.Path,
                            programs: dict[str, pathlib.Path]) -> None:
     """aigprove runs what was built, or else a release of the same crates; another by an option."""
     clone = Clone(folder, programs)
-    absent = b"aigprove: aigtool was not found; " \
-        b"./build builds aigtool, and so does `rt run` in crates/aigtool\n"
-    checks.wants("nothing is built", (1, b"", absent), clone.answer())
+    checks.wants("nothing is built", (1, b"", ABSENT + b"\n"), clone.answer())
     clone.release()
     checks.wants("prebuilt", (10, REACHED, b""), clone.answer())
-    told = f"aigprove {VERSION}\nprograms: release 7.8.9, crates {clone.tree}, {KIT}\n".encode()
-    checks.wants("the version", (0, told, b""), clone.answer("--version"))
+    released = f"release 7.8.9, crates {clone.tree}, {KIT}"
+    checks.wants("the programs", released, clone.told())
     clone.source.write_text("fn other() {}\n")
-    checks.wants("of other crates", (1, b"", absent), clone.answer())
+    checks.wants("of other crates", (1, b"", ABSENT + OLDER + b"\n"), clone.answer())
+    checks.check(clone.told().startswith("not built, crates "), "nothing is built")
     asked = clone.answer("--prebuilt", "--run", "run", "t.aag")
     checks.wants("of other crates, by the option", (10, REACHED, b""), asked)
+    checks.wants("the programs of the option", released, clone.told("--prebuilt"))
     for name, path in programs.items():
         built = folder / "crates" / name / "out" / name
         built.parent.mkdir(parents=True)
         shutil.copy(path, built)
     shutil.rmtree(folder / "prebuilt")
     checks.wants("built", (10, REACHED, b""), clone.answer())
-    checks.check(b"\nprograms: built here, crates " in clone.answer("--version")[1], "built here")
+    checks.check(clone.told().startswith("built here, crates "), "built here")
+
+
+def test_prebuilt_refused(checks: Checks, folder: pathlib.Path, programs: dict[str, pathlib.Path],
+                          monkeypatch: pytest.MonkeyPatch) -> None:
+    """Programs of a release that can't be run aren't, and it is said why."""
+    clone, name = Clone(folder, programs), "aigtool"
+    clone.release()
+    (folder / "prebuilt" / name).chmod(0o644)
+    refused = b"; prebuilt/aigtool isn't there, or may not be executed\n"
+    checks.wants("no program", (1, b"", ABSENT + refused), clone.answer())
+    asked = clone.answer("--prebuilt", "t.aag")
+    checks.wants("no program, by the option", (1, b"", ABSENT + refused), asked)
+    (folder / "prebuilt" / name).chmod(0o755)
+    places = list(release.places(str(folder), name, True))
+    checks.wants("the place", [str(folder / "prebuilt" / name)], places)
+    monkeypatch.setattr(release, "unfit", lambda: "need another system")
+    for is_prebuilt in [True, False]:
+        checks.wants("the hint", "; the programs in prebuilt/ need another system",
+                     release.hint(str(folder), name, is_prebuilt))
+        checks.check(places[0] not in release.places(str(folder), name, is_prebuilt), "not run")
 
 
 def test_compared(checks: Checks, folder: pathlib.Path, monkeypatch: pytest.MonkeyPatch) -> None:
@@ -178,6 +232,17 @@ def test_compared(checks: Checks, folder: pathlib.Path, monkeypatch: pytest.Monk
         (folder / "aigcheck").write_bytes(data)
         (folder / layout.SONAME).write_bytes(b"1")
         checks.wants(known, wanted, prebuilt.compared(now))
+
+
+def test_kept_release(checks: Checks) -> None:
+    """The release in the repository, if there is one, is whole, and its programs can be run."""
+    known, folder = release.read(str(prebuilt.FOLDER)), prebuilt.FOLDER
+    sums, found = known.sums if known else {}, [it for it in folder.rglob("*") if it.is_file()]
+    names = {str(it.relative_to(folder)) for it in found} - {release.FILE}
+    checks.wants("the files", set(sums), names)
+    checks.wants("files that were changed", [], prebuilt.changed(known, folder) if known else [])
+    for name in layout.PROGRAMS if known else ():
+        checks.check(os.access(folder / name, os.X_OK), f"{name} can't be run")
 
 
 def test_first_answers(checks: Checks, aigcheck: pathlib.Path) -> None:

@@ -1,18 +1,21 @@
-"""Builds a program in two folders, and all packages twice: the bytes have to be the same."""
+"""Builds programs in two folders, and all packages twice: the bytes have to be the same."""
 from __future__ import annotations
 
 import importlib.machinery
 import importlib.util
 import os
 import pathlib
+import shutil
 from types import ModuleType
+from typing import Any
 
+import archive
 import harness
 import kit
 import pytest
 from harness import TOP, Checks
 
-# A program that is proved fast. Of the whole ones ./dist --compare compares those of two clones.
+# A program that is proved fast.
 PROGRAM = """#![tactic(auto)]
 
 use std::io;
@@ -36,17 +39,45 @@ def script(name: str) -> ModuleType:
     return module
 
 
-def built(top: pathlib.Path) -> bytes:
-    """Returns the program, proved and built in a repository at this folder."""
-    folder = top / "crates" / "program"
-    (folder / "src").mkdir(parents=True)
-    (folder / "out").mkdir()
-    (folder / "src" / "main.rt").write_text(PROGRAM, encoding="utf-8")
-    (top / "crates.txt").write_text("program:\n", encoding="utf-8")
+def linked(top: pathlib.Path, name: str) -> bytes:
+    """Returns a program, proved and built by ./build over the libraries in a repository's folder.
+    """
+    folder = top / "crates" / name
+    (folder / "out").mkdir(exist_ok=True)
     crate = kit.crate(folder, top)
     with open(top / "said", "w", encoding="utf-8") as crate.out:
         assert script("build").link(crate), (top / "said").read_text(encoding="utf-8")
-    return (folder / "out" / "program").read_bytes()
+    return (folder / "out" / name).read_bytes()
+
+
+def built(top: pathlib.Path) -> bytes:
+    """Returns the small program, built in a new repository at this folder."""
+    (top / "crates" / "program" / "src").mkdir(parents=True)
+    (top / "crates" / "program" / "src" / "main.rt").write_text(PROGRAM, encoding="utf-8")
+    (top / "crates.txt").write_text("program:\n", encoding="utf-8")
+    return linked(top, "program")
+
+
+def link_or_copy(one: str, other: str) -> None:
+    """Gives a file a second name, or copies it to where it can't have one."""
+    try:
+        os.link(one, other)
+    except OSError:
+        shutil.copy2(one, other)
+
+
+@pytest.fixture
+def elsewhere(folder: pathlib.Path) -> pathlib.Path:
+    """A repository at another path: the crates here, with the libraries that were proved."""
+    made = folder / "another folder with a longer name"
+
+    def left(place: str, names: list[str]) -> list[str]:
+        return [it for it in names if it != "rlib"] if place.endswith("/out") else []
+
+    shutil.copytree(TOP / "crates", made / "crates", ignore=left, copy_function=link_or_copy)
+    for name in ["crates.txt", "HANDLES"]:
+        shutil.copy(TOP / name, made)
+    return made
 
 
 @pytest.mark.prover
@@ -56,6 +87,44 @@ def test_program(checks: Checks, folder: pathlib.Path) -> None:
     one, other = map(built, places)
     checks.check(one == other, "the programs of both folders differ")
     checks.check(not any(str(place).encode() in one for place in places), "a path stands in it")
+
+
+@pytest.mark.prover
+def test_build_starts(checks: Checks) -> None:
+    """./build finds what it imports."""
+    status, printed, said = harness.run([TOP / "build", "--help"])
+    checks.wants("its help", (0, True, b""), (status, b"--jobs" in printed, said))
+
+
+def test_no_path(checks: Checks) -> None:
+    """No path stands in the libraries of which programs are built, so theirs doesn't matter."""
+    for library in TOP.glob("crates/*/out/rlib/*.rlib"):
+        files = [it for it in library.rglob("*") if it.is_file()]
+        found = [it for it in files if os.fsencode(TOP) in it.read_bytes()]
+        checks.wants(library.name, [], found)
+    assert checks.passed, "nothing is proved"
+
+
+@pytest.mark.prover
+@pytest.mark.parametrize("name", ["aigtool", "aigedit", "aigcheck"])
+def test_whole_program(checks: Checks, elsewhere: pathlib.Path, name: str,
+                       programs: dict[str, pathlib.Path]) -> None:
+    """Each program has the same bytes if it is built anew in a folder at another path."""
+    checks.check(linked(elsewhere, name) == programs[name].read_bytes(), f"{name} differs")
+
+
+@pytest.mark.prover
+def test_library(checks: Checks, elsewhere: pathlib.Path, library: pathlib.Path) -> None:
+    """Both libraries have the same bytes if they are built anew from crates at another path."""
+    made, known = elsewhere / "made", dict[str, Any]()
+    made.mkdir()
+    crates = [kit.crate(elsewhere / "crates" / name, elsewhere, known) for name in archive.HEADERS]
+    with open(elsewhere / "said", "w", encoding="utf-8") as said:
+        for crate in crates:
+            crate.out = said
+        archive.build(crates, made)
+    for name in archive.BUILT:
+        checks.check((made / name).read_bytes() == (library / name).read_bytes(), f"{name} differs")
 
 
 @pytest.mark.debian

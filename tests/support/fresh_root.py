@@ -1,4 +1,6 @@
-"""A fresh root: this system with a layer on top of it, without network, toolchain and repository.
+"""A fresh root: a system with a layer on top of it, without network, toolchain and repository.
+
+The system is this one, or another in a folder, such as debootstrap makes one (`--root` of pytest).
 
 What a script writes there is in the layer, which is in memory, and gone when the script has ended.
 Only root can make one, and the kernel has to know overlayfs."""
@@ -16,8 +18,9 @@ import harness
 ENTER = """
 mount -t tmpfs tmpfs "$ROOM"
 mkdir "$ROOM/upper" "$ROOM/work" "$ROOM/root"
-mount -t overlay overlay -o "lowerdir=/,upperdir=$ROOM/upper,workdir=$ROOM/work" "$ROOM/root"
+mount -t overlay overlay -o "lowerdir=$LOWER,upperdir=$ROOM/upper,workdir=$ROOM/work" "$ROOM/root"
 for hidden in "$@"; do
+  mkdir -p "$ROOM/root$hidden"
   mount -t tmpfs tmpfs "$ROOM/root$hidden"
 done
 mount -t tmpfs tmpfs "$ROOM/root$INSIDE"
@@ -32,6 +35,8 @@ cd "$ROOM/upper"
 find . ! -type d > "$GIVEN/left"
 exit "$status"
 """
+# The system below the layer.
+lower = pathlib.Path("/")
 NAMESPACES = ["unshare", "--mount", "--net", "--pid", "--fork", "--kill-child"]
 
 
@@ -53,7 +58,8 @@ def enter(script: str, given: pathlib.Path, path: str = PATH,
     Returns its status and what it prints. What it left is then listed in the file `left` there."""
     (given / "script").write_text(script, encoding="utf-8")
     with harness.new_folder() as room:
-        places = {"ROOM": str(room), "GIVEN": str(given), "INSIDE": "/tmp", "INNER": path}
+        places = {"ROOM": str(room), "GIVEN": str(given), "INSIDE": "/tmp", "INNER": path,
+                  "LOWER": str(lower)}
         environment = {**os.environ, **places}
         words = [*NAMESPACES, "sh", "-ec", ENTER, "enter", *hidden()]
         return harness.run(words, env=environment, timeout=seconds)

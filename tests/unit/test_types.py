@@ -14,13 +14,13 @@ from harness import TESTS, TOP
 SUPPORT = TESTS / "support"
 # Modules of tests/support, and others of tests, whose types fit.
 TYPED_SUPPORT = """aiger archive commands faults fixtures kit languages lines promises reasons room
-scripts sources strategies tables theorems trials""".split()
+scripts shown sources strategies tables theorems trials""".split()
 TYPED_TESTS = """oracles/test_circuits oracles/test_circuit_clients oracles/test_incremental
 oracles/test_stepwise oracles/test_subjects prove/test_promises prove/test_widths rows/test_answers
-rows/test_calling rows/test_completion rows/test_drop_in rows/test_memory rows/test_outs
-rows/test_packages rows/test_process rows/test_release rows/test_repeats rows/test_scripts
-rows/test_told rows/test_viewer rows/test_waves support/fresh_root unit/test_reasons
-unit/test_scheduling unit/test_types""".split()
+rows/test_calling rows/test_completion rows/test_drop_in rows/test_first_commands rows/test_memory
+rows/test_outs rows/test_packages rows/test_process rows/test_release rows/test_repeats
+rows/test_scripts rows/test_told rows/test_viewer rows/test_waves support/fresh_root
+unit/test_reasons unit/test_scheduling unit/test_types""".split()
 REFERENCE = sorted(map(str, (SUPPORT / "reference").glob("*.py")))
 # The modules whose types fit, by the folder that they are read in.
 TYPED = {

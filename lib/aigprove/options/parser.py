@@ -54,8 +54,9 @@ class Parser(argparse.ArgumentParser):
 class Version(argparse.Action):
     """An option that says the version, which is looked up for nothing else."""
 
-    def __call__(self, parser: argparse.ArgumentParser, *_: object) -> NoReturn:
-        parser._print_message(release.version(TOP), sys.stdout)
+    def __call__(self, parser: argparse.ArgumentParser, words: argparse.Namespace,
+                 *_: object) -> NoReturn:
+        parser._print_message(release.version(TOP, words.prebuilt), sys.stdout)
         parser.exit()
 
 
@@ -223,25 +224,29 @@ def of_list(path: str, depth: int) -> list[str]:
     return listed(words, depth + 1)
 
 
-def program(places: Iterable[str], missing: str) -> str:
-    """Returns the path of the first of some programs that exists."""
+def program(places: Iterable[str], missing: Callable[[], str]) -> str:
+    """Returns the path of the first of some programs that exists; otherwise it says what is
+    missing."""
     for place in places:
         if path := path_of(place):
             return os.path.abspath(path)
-    raise Fault(missing)
+    raise Fault(missing())
 
 
 def trusted(name: str, given: str | None, is_prebuilt: bool) -> str:
     """Returns the path of one of our programs: the one that is given, or the first that is there.
     """
-    missing = f"{given or name} was not found; ./build builds {name}, and so does `rt run` " \
-        f"in crates/{name}"
+    def missing() -> str:
+        hint = "" if given else release.hint(TOP, name, is_prebuilt)
+        return f"{given or name} was not found; ./build builds {name}, and so does `rt run` " \
+            f"in crates/{name}{hint}"
+
     return program([given] if given else release.places(TOP, name, is_prebuilt), missing)
 
 
 def found(name: str) -> str:
     """Returns the path of another program."""
-    return program([name], f"{name} was not found")
+    return program([name], lambda: f"{name} was not found")
 
 
 def cadical() -> list[str]:
