@@ -70,8 +70,8 @@ class Call:
         self.is_plain = self.name != "message" and not any(kind == "int32_t*" for kind, _ in self.taken)
 
     def says(self, names):
-        """The comment, as it is of another language."""
-        text = self.doc.replace("AIG_DONE only where", names).replace("`*", "`")
+        """Returns the comment for another language, in which `names` stands for the success of a check."""
+        text = self.doc.replace("Returns AIG_DONE only if", names).replace("`*", "`")
         return re.sub(r"`aig_(\w+)`", r"`\1`", text)
 
     def result(self, gives, nothing, number):
@@ -131,7 +131,7 @@ def rust_call(call):
         numbers = "".join(f"let mut {word} = 0;\n    " for word in call.told)
         told = ", ".join(call.told)
         body = f"{numbers}{body}\n    Ok({f'{result} {{ {told} }}' if call.told[1:] else told})"
-    doc = comment(call.says("Done only where"), "/// ")
+    doc = comment(call.says("Succeeds only if"), "/// ")
     return f"{doc}\npub fn {call.name}({takes}) -> Result<{result}> {{\n    {body}\n}}\n"
 
 
@@ -182,7 +182,7 @@ def python_call(call):
     does, end = ("return _bytes" if call.gives else "_hold", ")")
     if call.told:
         does, end = (f"return {result}(*_told", "))") if call.told[1:] else ("return _told", ")[0]")
-    doc = comment(call.says("Returns only where"), "    ", 3)
+    doc = comment(call.says("Returns only if"), "    ", 3)
     doc = f'    """{doc[4:]}"""' if len(doc) < WIDTH - 3 and "\n" not in doc else f'    """{doc[4:]}\n    """'
     head = laid_out(f"def {call.name}(", takes, f") -> {result}:")
     return f"{head}\n{doc}\n{laid_out(f'{does}(', words, end, '    ')}\n"
