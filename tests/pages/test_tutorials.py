@@ -1,15 +1,16 @@
-"""Runs the commands of every page, and compares what they print.
+"""Runs the commands of every page, and compares their output with the page.
 
-A page is run from its first block to its last, in a new folder that has the examples and links to
-the folders of the repository, with aigprove and aigwaves in the PATH as if they were installed. A
-block with a language and a name, such as `verilog NAME`, is a file. If the repository has this
-file, at that path or in the examples, both have to be the same. Otherwise the page makes it. `cat
-NAME` of a file in Verilog that isn't there writes it as the page shows it. A page needs the tools
-that its commands call.
+The commands of a page are run from the first block to the last, in a new folder with the examples
+and with links to the folders of the repository. aigprove and aigwaves are in the PATH, as if they
+were installed. A block with a language and a name, such as `verilog NAME`, is a file. If the
+repository has this file, at that path or in the examples, both have to be the same. Otherwise the
+test writes the file. If a page runs `cat NAME` for a Verilog file that doesn't exist, the test
+writes the file with the contents that the page shows. A page needs the tools that its commands
+call.
 
-Engines take turns, so in what aigprove prints a line about a single step on the way is left out,
-and a number that depends on time isn't compared: up to which step assumptions were seen to be met,
-and the seconds of a table. A line `...` stands for any lines.
+Engines take turns, so the output of aigprove is compared without the lines about single steps.
+Numbers that depend on time aren't compared either: the step up to which assumptions can be met, and
+the seconds of a table. A line `...` stands for any lines.
 """
 from __future__ import annotations
 
@@ -57,8 +58,8 @@ PAGES = [
 
 
 def commands(block: str) -> Iterator[tuple[str, str]]:
-    """Yields each command of a block, which begins with `$ ` and goes on after `> `, and what it
-    prints."""
+    """Yields each command of a block, and its output. A command begins after `$ `, and continues
+    after `> `."""
     for part in re.split(r"^\$ ", block, flags=re.MULTILINE)[1:]:
         lines = part.splitlines(keepends=True)
         count = 1
@@ -100,21 +101,21 @@ class Reader:
         self.environment = {**os.environ, "PATH": path, "LC_ALL": "C.UTF-8"}
 
     def printed(self, command: str) -> str:
-        """Returns what a command prints to both streams; `$?` in it is the status of the one
-        before."""
+        """Runs a command, and returns its output to both streams. In the command, `$?` is the
+        status of the command before."""
         streams = {"stdin": subprocess.DEVNULL, "stderr": subprocess.STDOUT}
         words = ["sh", "-c", f"(exit {self.status}); {command}"]
         self.status, out, _ = harness.run(words, cwd=self.folder, env=self.environment, **streams)
         return out.decode()
 
     def write_shown(self, command: str, text: str) -> None:
-        """Writes a design that the page shows by `cat`."""
+        """Writes a design that the page prints with `cat`."""
         if (found := SHOWN.match(command)) and not (self.folder / found[1]).exists():
             (self.folder / found[1]).write_text(text)
 
     def take_file(self, name: str, text: str) -> bool:
-        """Writes a file that the page has; returns whether it is the repository's, if that has one.
-        """
+        """Writes a file that the page contains. If the repository has this file, returns whether
+        both are the same."""
         path = self.folder / name
         if path.exists():
             return path.read_text() == text
@@ -124,12 +125,12 @@ class Reader:
 
 
 def settled(text: str) -> str:
-    """Returns what is printed without what depends on time."""
+    """Returns an output without the parts that depend on time."""
     return TIMED.sub(lambda found: found[1] or found[2] or "", PASSING.sub("", text))
 
 
 def is_as_shown(shown: str, printed: str) -> bool:
-    """Returns whether the page shows what is printed, if a line `...` stands for any lines."""
+    """Returns whether the page shows the printed output, if a line `...` stands for any lines."""
     parts = [re.escape(part) for part in re.split(r"^\.\.\.\n", settled(shown), flags=re.MULTILINE)]
     return re.fullmatch("(?:.*\n)*".join(parts), settled(printed)) is not None
 
@@ -138,7 +139,7 @@ def is_as_shown(shown: str, printed: str) -> bool:
     "page", [pytest.param(page, marks=tools_of(page), id=str(page)) for page in PAGES]
 )
 def test_page(checks: Checks, folder: pathlib.Path, page: pathlib.Path) -> None:
-    """The commands of a page print what it says."""
+    """The commands of a page print the output that the page shows."""
     reader = Reader(folder)
     for kind, words, block in BLOCK.findall((TOP / page).read_text()):
         name = words.strip()
