@@ -374,7 +374,7 @@ public:
   Result<std::size_t> new_leaf_node() noexcept { return told<std::size_t>(aig_circuit_new_leaf_node); }
   /* Adds a leaf as the last input, and returns its number. */
   Result<std::size_t> new_input() noexcept { return told<std::size_t>(aig_circuit_new_input); }
-  /* Makes a free leaf the last input. */
+  /* Adds a free leaf of the circuit to the inputs, as the last input. */
   Status add_input(std::size_t node) noexcept { return perform(aig_circuit_add_input, node); }
   /* Adds a leaf and a latch with this leaf, which has no initial edge, and returns the number of the leaf. */
   Result<std::size_t> new_latch(Signal next) noexcept { return latch(next, false, Edge()); }

@@ -116,7 +116,7 @@ uint32_t aig_circuit_new_leaf_node(aig_circuit_t *circuit, size_t *node);
 /* Adds a leaf as the last input, and returns its number. */
 uint32_t aig_circuit_new_input(aig_circuit_t *circuit, size_t *node);
 
-/* Makes a free leaf the last input. The status is AIG_NOT_FREE if the node isn't a free leaf. */
+/* Adds a free leaf of the circuit to the inputs, as the last input. The status is AIG_NOT_FREE if the node isn't a free leaf. */
 uint32_t aig_circuit_add_input(aig_circuit_t *circuit, size_t node);
 
 /* Adds a leaf and a latch with this leaf, and returns the number of the leaf. The new latch is the last one. It has the next edge `next`

@@ -184,7 +184,7 @@ class _Held:
             raise _refusal(status)
 
     def _tell(self, kind: Any, name: str, *words: Any) -> Any:
-        """Returns the number that a call returns."""
+        """Makes a call, and returns its result, which is a number."""
         told = kind()
         self._do(name, *words, ctypes.byref(told))
         return told.value
@@ -320,7 +320,7 @@ class Circuit(_Held):
         return int(self._tell(ctypes.c_size_t, "new_input"))
 
     def add_input(self, node: int) -> None:
-        """Makes a free leaf the last input."""
+        """Adds a free leaf of the circuit to the inputs, as the last input."""
         self._do("add_input", _size(node))
 
     def new_latch(self, following: Edge, init: Edge | None = None) -> int:
