@@ -25,8 +25,10 @@ WHEEL = """Wheel-Version: 1.0
 Generator: {name}-dist ({version})
 Root-Is-Purelib: false
 Tag: {tag}
-"""COMMANDS = "[console_scripts]\naigprove = aigprove.command:main\n" # A Python script, into whose
-first line pip writes the interpreter. ANY, OWN = b"#!/usr/bin/env python3\n", b"#!python\n"
+"""
+COMMANDS = "[console_scripts]\naigprove = aigprove.command:main\n"
+# A Python script, into whose first line pip writes the interpreter.
+ANY, OWN = b"#!/usr/bin/env python3\n", b"#!python\n"
 
 
 def tag(glibc: tuple[int, int]) -> str:
