@@ -242,10 +242,10 @@ uint32_t aig_cnf(const uint8_t *file, size_t file_len, uint64_t k, bool optimize
  * initial state reaches a bad state at step `k`. If the file has no bad state properties, the clauses are unsatisfiable. */
 uint32_t aig_query(const uint8_t *file, size_t file_len, uint64_t k, bool optimize, uint8_t *out, size_t out_len, size_t *needed);
 
-/* Returns the clauses of the query as DIMACS numbers, with a 0 after each clause. A map follows, in the file's order and without a 0: the
- * literals of each input at step 0, at step 1 and so on up to step `k`, of each latch at step 0, and of each bad state property at step
- * `k`. `*variables` is the number of variables of the clauses. `*clauses_len` is the count of numbers that belong to the clauses, so the
- * map begins there. A file without bad state properties is refused. */
+/* Returns the clauses of the query as DIMACS numbers, with a 0 after each clause. A map follows, in the file's order and without a 0. It
+ * has the literals of each input at step 0, at step 1 and so on up to step `k`, of each latch at step 0, and of each bad state property
+ * at step `k`. `*variables` is the number of variables of the clauses. `*clauses_len` is the count of numbers that belong to the clauses,
+ * so the map begins there. A file without bad state properties is refused. */
 uint32_t aig_query_numbers(const uint8_t *file, size_t file_len, uint64_t k, bool optimize, int32_t *out, size_t out_len,
                            size_t *needed, size_t *variables, size_t *clauses_len);
 
@@ -344,10 +344,10 @@ uint32_t aig_witness_to(const uint8_t *file, size_t file_len, uint64_t k, bool o
 uint32_t aig_check_run(const uint8_t *file, size_t file_len, const uint8_t *witness, size_t witness_len, size_t *bad,
                        size_t *step);
 
-/* Returns AIG_DONE only if the witness shows a fair lasso of a file's machine: each run from an initial state with its values meets every
- * constraint, the state before step `*start` is reached again after step `*last`, and each literal of justice property `*justice` and of
- * fairness is true at a step of this loop. All three numbers are counted from 0. If the witness doesn't show a fair lasso, the status is
- * 60 or greater. The call doesn't read anything after the first witness. */
+/* Returns AIG_DONE only if the witness shows a fair lasso of a file's machine. Each run from an initial state with the values of the
+ * witness then meets every constraint, and the state before step `*start` is reached again after step `*last`. Each literal of justice
+ * property `*justice` and of fairness is true at a step of this loop. All three numbers are counted from 0. If the witness doesn't show a
+ * fair lasso, the status is 60 or greater. The call doesn't read anything after the first witness. */
 uint32_t aig_check_lasso(const uint8_t *file, size_t file_len, const uint8_t *witness, size_t witness_len, size_t *justice,
                          size_t *start, size_t *last);
 
@@ -363,9 +363,9 @@ uint32_t aig_live(const uint8_t *file, size_t file_len, size_t j, uint8_t *out, 
 uint32_t aig_rounds(const uint8_t *file, size_t file_len, size_t j, size_t count, uint8_t *out, size_t out_len, size_t *needed);
 
 /* Returns AIG_DONE only if a file's justice property `j`, counted from 0, has no fair lasso of `k` + 1 steps. A fair lasso is a run from
- * an initial state, under the constraints at each step, whose last step leads back to the state of an earlier step, so that each literal
- * of the property and of fairness is true at a step of this loop. `proof` has to refute the clauses of `aig_query` for the text that
- * `aig_live` returns. It is only tested that this call derives the same circuit as `aig_live`. */
+ * an initial state, under the constraints at each step, whose last step leads back to the state of an earlier step. Each literal of the
+ * property and of fairness is true at a step of this loop. `proof` has to refute the clauses of `aig_query` for the text that `aig_live`
+ * returns. It is only tested that this call derives the same circuit as `aig_live`. */
 uint32_t aig_check_no_lasso(const uint8_t *file, size_t file_len, size_t j, uint64_t k, bool optimize, const uint8_t *proof,
                             size_t proof_len);
 
@@ -375,9 +375,9 @@ uint32_t aig_check_no_lasso(const uint8_t *file, size_t file_len, size_t j, uint
 uint32_t aig_check_no_lasso_to(const uint8_t *file, size_t file_len, size_t j, uint64_t k, bool optimize, const uint8_t *proof,
                                size_t proof_len);
 
-/* Returns AIG_DONE only if a file's justice property `j`, counted from 0, has no fair run: no infinite run from an initial state, under
- * the constraints at each step, on which each literal of the property and of fairness is true infinitely often. `base` and `step` are
- * proofs as for `aig_check_safe`, for the text that `aig_live` returns. */
+/* Returns AIG_DONE only if a file's justice property `j`, counted from 0, has no fair run. A fair run is an infinite run from an initial
+ * state, under the constraints at each step, on which each literal of the property and of fairness is true infinitely often. `base` and
+ * `step` are proofs as for `aig_check_safe`, for the text that `aig_live` returns. */
 uint32_t aig_check_no_fair_run(const uint8_t *file, size_t file_len, size_t j, uint64_t k, bool distinct, bool base_optimize,
                                const uint8_t *base, size_t base_len, bool step_optimize, const uint8_t *step, size_t step_len);
 

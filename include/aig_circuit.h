@@ -401,9 +401,9 @@ uint32_t aig_unrolling_check_refuted(aig_unrolling_t *unrolling, size_t step, co
 
 /* Returns AIG_DONE only if no run of `k` + 2 steps, from any state and under the constraints at each step, is bad only at its last step
  * (k-induction). So if no run from an initial state reaches a bad state at the steps 0 to `k`, no such run ever reaches one. `proof` has
- * to refute the following clauses, numbered from 1: those of the steps 0 to `k` + 1, in order, for each bad edge of the steps 0 to `k`,
- * in order, a clause which states that it is false, and one clause of the bad edges of step `k` + 1. The status is AIG_RANGE if fewer
- * than `k` + 1 steps were added. */
+ * to refute the following clauses, which are numbered from 1 in this order. First come the clauses of the steps 0 to `k` + 1, in order.
+ * For each bad edge of the steps 0 to `k`, in order, a clause follows which states that the edge is false. The last clause contains the
+ * bad edges of step `k` + 1. The status is AIG_RANGE if fewer than `k` + 1 steps were added. */
 uint32_t aig_unrolling_check_inductive(aig_unrolling_t *unrolling, size_t k, const uint8_t *proof, size_t proof_len);
 
 #ifdef __cplusplus
