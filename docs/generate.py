@@ -23,7 +23,7 @@ CODE = re.compile(rf"(?<![\w`$-])(--?[a-z][\w-]*|\$(?:stop|fatal)|\.(?:v|sv|il|y
 
 
 def cell(text: str) -> str:
-    """Returns a text as that of a cell."""
+    """Returns a text in the format of a table cell."""
     return CODE.sub(r"`\1`", text).replace("|", "\\|")
 
 

@@ -1,9 +1,9 @@
 #!/usr/bin/env python3
-"""Draws docs/house.svg, the crates and what they stand on: house.py [--check]
+"""Draws docs/house.svg, the crates and their dependencies: house.py [--check]
 
-A crate stands in a row above all that it stands on, by crates.txt, which is named in its box but for what follows from others. There
-also is the count of its definitions that public contracts and laws rest on. --check writes nothing and fails where the drawing is
-another.
+A crate is drawn above all crates on which it depends, by crates.txt. Its box names these crates, except those that follow from others.
+The box also contains the number of its definitions on which public contracts and laws depend. With --check, nothing is written, and the
+exit status is 1 if the drawing isn't up to date.
 """
 import functools
 import pathlib
@@ -29,7 +29,7 @@ LINES = harness.crates()
 
 
 def kind_of(name, code):
-    """What a crate is for."""
+    """Returns the kind of a crate."""
     if name in TESTS:
         return TEST
     if (TOP / "crates" / name / "src" / "main.rt").exists():
@@ -51,18 +51,18 @@ def rectangle(x, y, width, height, colour):
 
 @functools.cache
 def below(name):
-    """The crates that the line of a crate names."""
+    """Returns the crates that the line of a crate names."""
     return [other for other in LINES[name].partition(":")[2].split() if other in LINES]
 
 
 @functools.cache
 def under(name):
-    """All crates that a crate stands on."""
+    """Returns all crates on which a crate depends."""
     return set(below(name)).union(*map(under, below(name)))
 
 
 def row(name):
-    """The row of a crate, from the bottom."""
+    """Returns the row of a crate, counted from the bottom."""
     return 1 + max(map(row, below(name)), default=-1)
 
 
@@ -83,7 +83,7 @@ class Box:
 
 
 def drawing():
-    """The text of the drawing."""
+    """Returns the text of the drawing."""
     _, code, (*_, (_, definitions, _)) = promises.layers()
     rows = [[Box(name, code, definitions) for name in sorted(LINES) if row(name) == at] for at in range(max(map(row, LINES)), -1, -1)]
     widths = [sum(box.width + GAP for box in boxes) - GAP for boxes in rows]

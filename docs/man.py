@@ -1,8 +1,8 @@
 #!/usr/bin/env python3
 """Writes the man pages of the programs into a folder: man.py FOLDER
 
-Those of aigtool, aigedit and aigcheck are made of docs/reference: the lines of each block of the kind `usage`, and the paragraph below
-it. That of aigprove is made of the texts in lib/aigprove/options, as aigprove --help is."""
+The man pages of aigtool, aigedit and aigcheck are generated from docs/reference: from the lines of each block `usage`, and the paragraph
+below it. The man page of aigprove is generated from the texts in lib/aigprove/options, like aigprove --help."""
 import os
 import pathlib
 import re
@@ -39,7 +39,7 @@ FILES = "FILE and OTHER are AIGER files, text or binary. K is a step, counted fr
 
 
 def plain(text: str) -> str:
-    """Returns a text of a page as one of troff's."""
+    """Returns a text of a page in the format of troff."""
     text = re.sub(r" \(\[[^\]]*\]\([^)]*\)\)", "", text)
     text = re.sub(r"\[([^\]]*)\]\([^)]*\)", r"\1", text).replace("*", "").replace("\\", "\\\\").replace("-", "\\-")
     return re.sub(r"(?m)^(?=[.'])", r"\\&", re.sub(r"`([^`]*)`", r"\\fB\1\\fP", text))
@@ -61,7 +61,7 @@ def statuses(rows: Iterator[tuple[str, str]]) -> list[str]:
 
 
 def of_reference(program: str) -> list[str]:
-    """Returns the page of a program that the reference describes."""
+    """Returns the man page of a program that the reference describes."""
     text = (TOP / "docs" / "reference" / f"{program}.md").read_text(encoding="utf-8")
     lines = [*head(program), f".B {program}", ".I COMMAND FILE ..", ".SH DESCRIPTION", plain(FILES), ".SH COMMANDS"]
     for usage, what in USAGE.findall(text):
@@ -75,7 +75,7 @@ def of_reference(program: str) -> list[str]:
 
 
 def of_options() -> list[str]:
-    """Returns the page of aigprove."""
+    """Returns the man page of aigprove."""
     about = text_of("options/about.txt").strip().replace("\n\n", "\n.PP\n")
     lines = [*head("aigprove"), ".B aigprove", ".I [OPTION ..] FILE .. [TOP]", ".SH DESCRIPTION", plain(about).replace("\\&.PP", ".PP")]
     lines += [".SH ENGINES", *(line for it in tables.engines() for line in item(it.name, it.does)), ".SH OPTIONS"]

@@ -1,7 +1,8 @@
 #!/usr/bin/env python3
-"""Draws docs/waves.png, the picture in docs/reference/aigprove.md, by gtkwave on a screen of its own: picture.py [OUT]
+"""Draws docs/waves.png, the picture in docs/reference/aigprove.md, by running gtkwave on a virtual screen: picture.py [OUT]
 
-The run is what `aigprove --vcd` writes of examples/queue.v. If gtkwave, Xvfb or yosys isn't installed, it draws nothing, and says so."""
+The run is the one that `aigprove --vcd` writes for examples/queue.v. If gtkwave, Xvfb or yosys isn't installed, the script draws nothing,
+and prints a message."""
 import os
 import pathlib
 import shutil

@@ -1,11 +1,13 @@
 #!/usr/bin/env python3
-"""Draws the circuit of a small file in AIGER form, text or binary, as a graph for Graphviz: dot.py FILE | dot -Tsvg > circuit.svg
+"""Prints the circuit of a small AIGER file, text or binary, as a graph for Graphviz: dot.py FILE | dot -Tsvg > circuit.svg
 
-Inputs are triangles, latches boxes apart from the gates, which are circles, and outputs, bad states and constraints stand at the
-ends, by their names in FILE, and else by the letter of their kind and their position. A latch says its first value, which is ? where it
-is open; a bold edge leads to it from its next value. An edge whose value is inverted is dashed. Gates are numbered as in FILE.
+Inputs are triangles, latches are boxes, and gates are circles. Outputs, bad state properties and constraints are at the ends of the
+graph. Each item has its name in FILE. If it has none, it has the letter of its kind and its position. The box of a latch contains its
+initial value, which is ? if the latch is open, and a bold edge leads to it from its next value. An inverted edge is dashed. Gates have
+their numbers in FILE.
 
-Exit status 0: printed. 1: not printed, with one line of why. 2: wrong words."""
+The exit status is 0 if the graph was printed, 1 if there was an error, which is printed in one line, and 2 if the arguments aren't valid.
+"""
 import argparse
 import json
 import pathlib
@@ -21,13 +23,13 @@ SHAPES = {"i": "invtriangle", "l": "box", "o": "triangle", "b": "octagon, color=
 
 
 def edge(literal, to, style=""):
-    """An edge from the node of a literal; nodes are named by even literals."""
+    """Returns the line for an edge from the node of a literal. Nodes are named after their even literals."""
     words = ", ".join(["style=dashed"] * (literal & 1) + [style] * bool(style))
     return f"  n{literal & ~1} -> {to}{f' [{words}]' * bool(words)};"
 
 
 def graph(circuit):
-    """The lines of the graph: leaves, gates, what is asked about, and edges."""
+    """Returns the lines of the graph: leaves, gates, properties, and edges."""
     kinds, edges = {letter: [] for letter in SHAPES}, []
     for letter, i, literal in circuit.signals():
         name, label = f"n{literal}", circuit.name(letter, i).decode("utf-8", "replace")

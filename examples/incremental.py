@@ -1,6 +1,7 @@
 #!/usr/bin/env python3
-"""A bounded model checker with one incremental solver, whose answers it has checked:
-incremental.py SOLVER FILE [BOUND]. SOLVER is made of Debian's libcadical.a:
+"""A bounded model checker with one incremental solver, whose answers the library checks:
+incremental.py SOLVER FILE [BOUND]. SOLVER is a shared library that is built from Debian's
+libcadical.a:
 
     g++ -shared -o libcadical.so -Wl,--whole-archive -l:libcadical.a -Wl,--no-whole-archive
 """
@@ -23,7 +24,7 @@ def literal(edge: int) -> int:
 
 
 class Solver:
-    """cadical, and the clauses that it learns, as a proof."""
+    """An instance of cadical, and the clauses that it has learned, which are a proof."""
 
     def __init__(self, path: str) -> None:
         self.calls, self.proof = ctypes.CDLL(path), list[int]()
@@ -40,12 +41,13 @@ class Solver:
             self.calls.ccadical_add(self.held, number)
 
     def solve(self, assumed: int) -> bool:
-        """Returns whether the clauses can be satisfied where a literal is true."""
+        """Returns whether the clauses can be satisfied under the assumption that a literal is true.
+        """
         self.calls.ccadical_assume(self.held, assumed)
         return bool(self.calls.ccadical_solve(self.held) == 10)
 
     def solution(self, variables: int) -> bytes:
-        """Returns the values of variables up to one, as solvers print them."""
+        """Returns the values of the first variables, in the format of solvers."""
         values = (self.calls.ccadical_val(self.held, it + 1) for it in range(variables))
         return f"s SATISFIABLE\nv {' '.join(map(str, values))} 0\n".encode()
 

@@ -1,13 +1,14 @@
 #!/usr/bin/env python3
-"""Prints the fair lasso that a witness of a live file is: lasso.py FILE J WITNESS
+"""Prints the fair lasso that a witness of a live file contains: lasso.py FILE J WITNESS
 
-FILE is in AIGER form, text or binary; WITNESS, in the form of docs/reference/witnesses.md, is one of the file that `aigedit live FILE J` prints. The
-lasso is a witness of FILE for its justice property J: without the values of the latches that the live file has more, and of its last
-input.
+FILE is an AIGER file, text or binary. WITNESS is a witness, in the format of docs/reference/witnesses.md, of the file that `aigedit live
+FILE J` prints. The lasso is a witness of FILE for its justice property J. It is WITNESS without the values of the latches and the input
+that the live file has in addition.
 
-Nothing is judged: whether it is a lasso is what `aigcheck run FILE LASSO` says.
+The program doesn't check the lasso. Use `aigcheck run FILE LASSO` for this.
 
-Exit status 0: printed. 1: not printed, with one line of why. 2: wrong words."""
+The exit status is 0 if the lasso was printed, 1 if there was an error, which is printed in one line, and 2 if the arguments aren't valid.
+"""
 import argparse
 import pathlib
 import sys
@@ -33,7 +34,7 @@ def parse():
 
 
 def lasso(words):
-    """The text of the lasso, once both files were read."""
+    """Reads both files, and returns the text of the lasso."""
     circuit = Circuit(Lines(pathlib.Path(words.file).read_bytes(), "FILE"))
     if words.number >= len(circuit.justice):
         raise Fault(f"{words.file}: no such justice property")

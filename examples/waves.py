@@ -1,15 +1,18 @@
 #!/usr/bin/env python3
 """Prints the run of a witness as a value change dump (VCD, IEEE 1364), which wave viewers such as gtkwave read.
 
-FILE is in AIGER form, text or binary; WITNESS is in the form of docs/reference/witnesses.md. Inputs, latches, outputs, bad state properties
-and constraints are signals, in a scope for each kind, by their names in FILE, and else by the letter of their kind and their
-position. Bits that are named `d[0]`, `d[1]` and so on are one word `d`, and the parts of a name `a.b.d` are scopes. A value is 0,
-1 or x, by simulation in three values. Step t stands at time t; the last one ends the dump. In a name every byte that isn't
-printable, and the percent sign, stands as a percent sign and two hexadecimal digits.
+FILE is an AIGER file, text or binary. WITNESS is a witness in the format of docs/reference/witnesses.md. Inputs, latches, outputs, bad
+state properties and constraints become signals, in a scope for each kind. A signal has its name in FILE. If it has none, its name
+consists of the letter of its kind and its position. Bits with the names `d[0]`, `d[1]` and so on become one word `d`, and the parts of a
+name `a.b.d` become scopes. A value is 0, 1 or x, from a simulation with three values. Step t is at time t, and the dump ends one time
+unit after the last step. In a name, each byte that isn't printable, and the percent sign, is replaced by a percent sign and two
+hexadecimal digits.
 
-Nothing is judged: whether the run begins in a start, meets the constraints and is bad at its end is what `aigcheck run` says.
+The program doesn't check the run. Use `aigcheck run` to check that it starts in an initial state, meets the constraints and is bad at its
+last step.
 
-Exit status 0: printed. 1: not printed, with one line of why. 2: wrong words."""
+The exit status is 0 if the dump was printed, 1 if there was an error, which is printed in one line, and 2 if the arguments aren't valid.
+"""
 import argparse
 import pathlib
 import sys
@@ -37,7 +40,7 @@ def parse():
 
 
 def show(words):
-    """Prints the dump, once both files were read."""
+    """Reads both files, and prints the dump."""
     circuit = Circuit(Lines(pathlib.Path(words.file).read_bytes(), "FILE"))
     lines = Lines(pathlib.Path(words.witness).read_bytes(), "WITNESS")
     for _ in range(words.number):

@@ -6,13 +6,13 @@
  *     aig::Signal x = circuit.signal(circuit.new_input()), y = circuit.signal(circuit.new_input());
  *     if (aig::Status status = circuit.push_edge(AIG_OUTPUTS, (x & ~y) | (x ^ y)); !status) return status.code();
  *
- * Nothing here throws, and nothing needs exceptions or run-time type information: a call returns a `Status`, or a `Result` that holds an
- * answer or a status. All memory comes from malloc. If malloc fails, the status is AIG_MEMORY. `assert` checks what a caller must keep,
- * such as that a `Result` without an answer isn't read.
+ * Nothing in this header throws, or needs exceptions or run-time type information. A call returns a `Status`, or a `Result` that contains
+ * an answer or a status. All memory comes from malloc. If malloc fails, the status is AIG_MEMORY. `assert` checks the requirements on the
+ * caller, for example that a `Result` without an answer isn't read.
  *
- * What each call does stands in aig_circuit.h at the call of the same name. A circuit, simulation or unrolling that was moved from, or that
- * was made by the constructor without arguments, holds nothing, and each call on it returns AIG_EMPTY. No member function is const, because
- * two threads must not read one circuit at once: give a second thread a clone.
+ * aig_circuit.h describes what each call does, at the call with the same name. A circuit, simulation or unrolling that was moved from, or
+ * that was created by the constructor without arguments, holds nothing, and each call on it returns AIG_EMPTY. No member function is const,
+ * because two threads must not read the same circuit at the same time. Give a second thread a clone.
  */
 #ifndef AIG_HPP
 #define AIG_HPP
@@ -31,13 +31,13 @@
 
 namespace aig {
 
-/* The words of a status, in memory of their own. */
+/* The text of a status. */
 struct Message {
   char text[128] = {};
   const char *c_str() const { return text; }
 };
 
-/* How a call ended: a status of aig.h. It is true exactly if the call is done. */
+/* The status of a call, which is one of aig.h. It converts to true exactly if the status is AIG_DONE. */
 class [[nodiscard]] Status {
   std::uint32_t code_;
 
@@ -48,7 +48,7 @@ public:
   friend constexpr bool operator==(Status a, Status b) noexcept { return a.code_ == b.code_; }
   friend constexpr bool operator!=(Status a, Status b) noexcept { return a.code_ != b.code_; }
 
-  /* Returns the words of the status, as the programs print them. */
+  /* Returns the meaning of the status as text, in the words that the programs print. */
   Message message() const noexcept {
     Message made;
     std::uint8_t bytes[sizeof made.text - 1];
@@ -59,7 +59,7 @@ public:
   }
 };
 
-/* An answer, or a status that says why there is no answer. */
+/* An answer, or a status with the reason why there is no answer. */
 template <class T> class [[nodiscard]] Result {
   Status status_;
   T value_;
@@ -70,8 +70,8 @@ public:
   Status status() const noexcept { return status_; }
   explicit operator bool() const noexcept { return bool(status_); }
 
-  /* Returns the answer, which has to be there. If there is no answer, and assertions are off, the value has no meaning. It is moved out
-   * of a temporary result, so that a loop may walk over it, as in `for (auto node : *circuit.nodes())`. */
+  /* Returns the answer, which has to exist. If it doesn't exist and assertions are disabled, the value has no meaning. The answer is
+   * moved out of a temporary result, so that it can be used in a loop such as `for (auto node : *circuit.nodes())`. */
   T &operator*() & noexcept {
     assert(status_);
     return value_;
@@ -86,7 +86,7 @@ public:
   T value_or(T other) && noexcept { return status_ ? std::move(value_) : std::move(other); }
 };
 
-/* Items in memory of one's own. A list is moved, and not copied. */
+/* A list that owns the memory of its items. It can be moved, but not copied. */
 template <class T> class List {
   static_assert(std::is_trivially_copyable<T>::value, "a list's items are plain values");
   T *items_ = nullptr;
@@ -112,7 +112,8 @@ public:
     return items_[i];
   }
 
-  /* Puts what a call gives in place of the items. The call is made with room for so many items, and once more if they don't fit. */
+  /* Replaces the items by the answer of a call. The call is first made with space for `room` items, and repeated with more space if the
+   * answer doesn't fit. */
   template <class Call> Status fill(std::size_t room, Call call) noexcept {
     for (;;) {
       List made;
@@ -128,7 +129,8 @@ public:
   }
 };
 
-/* Items that a call reads: of an array, of a list, or of anything else with `data` and `size`. They may be none, at no place. */
+/* The items that a call reads, from an array, a list, or any other object with `data` and `size`. A view may be empty, and then its
+ * pointer may be null. */
 template <class T> class View {
   const T *items_;
   std::size_t size_;
@@ -143,12 +145,13 @@ public:
     static_assert(std::is_same<Item, T>::value || sizeof(Item) * sizeof(T) == 1, "items of another type");
   }
 
-  /* Returns the first item. Of no items it is a place that isn't read, since the calls take no null pointer. */
+  /* Returns a pointer to the first item. If there are no items, returns a pointer that isn't null and isn't read, because the calls don't
+   * accept null. */
   const T *data() const noexcept { return size_ ? items_ : reinterpret_cast<const T *>(NONE); }
   std::size_t size() const noexcept { return size_; }
 };
 
-/* An edge: a node's number, and whether it is inverted, as one literal of the AIGER format. */
+/* An edge, that is, the number of a node and whether it is inverted, stored as a literal of the AIGER format. */
 class Edge {
   std::uint32_t literal_ = 0;
 
@@ -156,11 +159,11 @@ public:
   constexpr Edge() noexcept = default;
   constexpr explicit Edge(std::uint32_t literal) noexcept : literal_(literal) {}
 
-  /* Returns the edge to a node, whose number is below 2^31. */
+  /* Returns the edge to a node, whose number has to be below 2^31. */
   static constexpr Edge to(std::size_t node, bool inverted = false) noexcept {
     return Edge(static_cast<std::uint32_t>(2 * node + inverted));
   }
-  /* Returns the edge that is constant. */
+  /* Returns the edge with a constant value. */
   static constexpr Edge constant(bool value) noexcept { return Edge(value); }
 
   constexpr std::uint32_t literal() const noexcept { return literal_; }
@@ -176,9 +179,10 @@ static_assert(sizeof(Edge) == sizeof(std::uint32_t) && std::is_standard_layout<E
 
 class Circuit;
 
-/* An edge of a circuit, with operators that add gates to the circuit, or the status of the first operation that failed. What is made of
- * a signal without an edge has its status, so that it is enough to look at the last one. A signal is used only while its circuit lives,
- * which may be moved meanwhile. An edge becomes a signal of no certain circuit, for a call or an operator beside another signal. */
+/* An edge of a circuit, with operators that add gates to the circuit, or the status of the first operation that failed. A signal that is
+ * computed from a signal without an edge has the status of this signal, so it is enough to test the last one. A signal must only be used
+ * while its circuit exists. The circuit may be moved in the meantime. An edge converts to a signal that doesn't belong to a circuit, so
+ * that it can be an argument of a call, or an operand together with a signal of a circuit. */
 class Signal {
   friend class Circuit;
   aig_circuit_t *circuit_ = nullptr;
@@ -205,7 +209,7 @@ public:
   Status status() const noexcept { return status_; }
   explicit operator bool() const noexcept { return bool(status_); }
 
-  /* Returns the edge, which has to be there. */
+  /* Returns the edge, which has to exist. */
   Edge edge() const noexcept {
     assert(status_);
     return edge_;
@@ -216,31 +220,31 @@ public:
     made.edge_ = ~edge_;
     return made;
   }
-  /* Returns the and of two signals, as `new_and_node`. */
+  /* Returns the and of two signals, by `new_and_node`. */
   friend Signal operator&(Signal a, Signal b) noexcept { return joined(aig_circuit_new_and_node, a, b); }
-  /* Returns the or of two signals, as `new_or_node`. */
+  /* Returns the or of two signals, by `new_or_node`. */
   friend Signal operator|(Signal a, Signal b) noexcept { return joined(aig_circuit_new_or_node, a, b); }
   /* Returns the exclusive or of two signals: the inverse of `equals`. */
   friend Signal operator^(Signal a, Signal b) noexcept { return ~equals(a, b); }
-  /* Returns whether two signals are equal, as `new_eq_node`. */
+  /* Returns a signal that is true if and only if two signals are equal, by `new_eq_node`. */
   friend Signal equals(Signal a, Signal b) noexcept { return joined(aig_circuit_new_eq_node, a, b); }
-  /* Returns whether the first signal implies the second, as `new_imply_node`. */
+  /* Returns a signal that is true if and only if the first signal implies the second, by `new_imply_node`. */
   friend Signal implies(Signal a, Signal b) noexcept { return joined(aig_circuit_new_imply_node, a, b); }
-  /* Returns `one` if `condition` is true, and `other` otherwise. */
+  /* Returns a signal that has the value of `one` if `condition` is true, and the value of `other` otherwise. */
   friend Signal choose(Signal condition, Signal one, Signal other) noexcept {
     return (condition & one) | (~condition & other);
   }
 };
 
-/* What owns a handle of C's at a place that stays. */
+/* The owner of a handle for C, whose address never changes. */
 template <class Handle, void (*release)(Handle *)> class Held {
   Handle *at_ = nullptr;
 
 protected:
-  /* How many items an answer has room for at first. */
+  /* The number of items for which an answer has space initially. */
   static constexpr std::size_t ROOM = 1024;
 
-  /* Makes a call that puts something into a handle, which is held then in place of what was held. */
+  /* Makes a call that puts something into a new handle, and replaces the held handle by it. */
   template <class Call> Status put(Call call) noexcept {
     Held made;
     made.at_ = new (std::nothrow) Handle AIG_NONE;
@@ -249,23 +253,23 @@ protected:
     if (status) std::swap(at_, made.at_);
     return status;
   }
-  /* Makes a call on what is held. */
+  /* Makes a call on the held handle. */
   template <class Call, class... Words> Status perform(Call call, Words... words) noexcept {
     return at_ ? Status(call(at_, words...)) : Status(AIG_EMPTY);
   }
-  /* Makes a call that returns something. */
+  /* Makes a call on the held handle, and returns its result. */
   template <class T, class Call, class... Words> Result<T> told(Call call, Words... words) noexcept {
     T value{};
     Status status = perform(call, words..., &value);
     return status ? Result<T>(value) : Result<T>(status);
   }
-  /* Makes a call that returns a list of about this number of items. */
+  /* Makes a call that returns a list, with space for `room` items initially. */
   template <class T, class Call, class... Words> Result<List<T>> listed(std::size_t room, Call call, Words... words) noexcept {
     List<T> made;
     Status status = made.fill(room, [&](auto... out) { return perform(call, words..., out...); });
     return status ? Result<List<T>>(std::move(made)) : Result<List<T>>(status);
   }
-  /* Makes a call that gives edges. */
+  /* Makes a call that returns a list of edges. */
   template <class Call, class... Words> Result<List<Edge>> edges_of(Call call, Words... words) noexcept {
     List<Edge> made;
     Status status = made.fill(ROOM, [&](Edge *out, auto... counts) {
@@ -287,15 +291,16 @@ public:
     delete at_;
   }
 
-  /* Returns whether anything is held. */
+  /* Returns whether the object holds something. */
   bool holds() const noexcept { return at_ != nullptr; }
-  /* Returns the handle for calls of aig_circuit.h, or null if nothing is held. What it holds mustn't be freed by them. */
+  /* Returns the handle for calls of aig_circuit.h, or null if the object holds nothing. These calls must not free the handle. */
   Handle *handle() const noexcept { return at_; }
 };
 
-/* A circuit, which is moved, and copied by `clone`. */
+/* A circuit. It can be moved, and `clone` copies it. */
 class Circuit : public Held<aig_circuit_t, aig_circuit_free> {
-  /* Why a signal isn't an edge that can be given to a call, if it isn't. Whether its node is there is asked by the call. */
+  /* Returns the status with which a call has to refuse a signal, or AIG_DONE. The call itself tests whether the node of the signal
+   * exists. */
   Status of(Signal signal) const noexcept {
     if (!signal.status_) return signal.status_;
     const bool is_foreign = signal.circuit_ && signal.circuit_ != handle() && handle();
@@ -317,7 +322,7 @@ class Circuit : public Held<aig_circuit_t, aig_circuit_free> {
     return literal ? Result<Edge>(Edge(*literal)) : Result<Edge>(literal.status());
   }
   static const std::uint32_t *literals(View<Edge> edges) noexcept { return reinterpret_cast<const std::uint32_t *>(edges.data()); }
-  /* Makes a call that gives bytes, as characters. */
+  /* Makes a call that returns bytes, and returns them as characters. */
   template <class Call, class... Words> Result<List<char>> text_of(Call call, Words... words) noexcept {
     List<char> made;
     Status status = made.fill(ROOM, [&](char *out, auto... counts) {
@@ -329,19 +334,19 @@ class Circuit : public Held<aig_circuit_t, aig_circuit_free> {
 public:
   /* ---- handles and files */
 
-  /* Makes the circuit that has only node 0. */
+  /* Returns a new circuit that has only node 0. */
   static Result<Circuit> make() noexcept {
     Circuit made;
     Status status = made.put(aig_circuit_new);
     return status ? Result<Circuit>(std::move(made)) : Result<Circuit>(status);
   }
-  /* Makes a copy. */
+  /* Returns a copy. */
   Result<Circuit> clone() noexcept {
     Circuit made;
     Status status = made.put([this](aig_circuit_t *to) { return perform(aig_circuit_clone, to).code(); });
     return status ? Result<Circuit>(std::move(made)) : Result<Circuit>(status);
   }
-  /* Reads a file, text or binary, of at most `limit` variables, from 1 to 2^31. */
+  /* Returns the circuit of a file, text or binary, with at most `limit` variables. `limit` is from 1 to 2^31. */
   static Result<Circuit> from_aiger(View<std::uint8_t> file, std::size_t limit) noexcept {
     Circuit made;
     Status status = made.put([=](aig_circuit_t *to) { return aig_circuit_from_aiger(to, file.data(), file.size(), limit); });
@@ -354,11 +359,11 @@ public:
 
   /* ---- signals */
 
-  /* Returns an edge of this circuit, with operators. */
+  /* Returns an edge of this circuit as a signal, which has operators. */
   Signal signal(Edge edge) noexcept { return Signal(handle(), edge); }
-  /* Returns the edge that a call returned, or the status of the call. */
+  /* Returns the edge that a call returned as a signal, or the status of the call. */
   Signal signal(Result<Edge> edge) noexcept { return edge ? signal(*edge) : Signal(edge.status()); }
-  /* Returns the edge to the node that a call returned, or the status of the call. */
+  /* Returns the edge to the node that a call returned as a signal, or the status of the call. */
   Signal signal(Result<std::size_t> node) noexcept { return node ? signal(Edge::to(*node)) : Signal(node.status()); }
   /* Returns a constant. */
   Signal constant(bool value) noexcept { return signal(Edge::constant(value)); }
@@ -367,54 +372,56 @@ public:
 
   /* Adds a free leaf, and returns its number. */
   Result<std::size_t> new_leaf_node() noexcept { return told<std::size_t>(aig_circuit_new_leaf_node); }
-  /* Adds a leaf that is the last input, and returns its number. */
+  /* Adds a leaf as the last input, and returns its number. */
   Result<std::size_t> new_input() noexcept { return told<std::size_t>(aig_circuit_new_input); }
-  /* Makes a free leaf the last input. */
+  /* Adds a free leaf of the circuit to the inputs, as the last input. */
   Status add_input(std::size_t node) noexcept { return perform(aig_circuit_add_input, node); }
-  /* Adds a leaf with the last latch, which has no initial edge, and returns the leaf's number. */
+  /* Adds a leaf and a latch with this leaf, which has no initial edge, and returns the number of the leaf. */
   Result<std::size_t> new_latch(Signal next) noexcept { return latch(next, false, Edge()); }
-  /* Adds a leaf with the last latch, which has an initial edge, and returns the leaf's number. */
+  /* Adds a leaf and a latch with this leaf, which has an initial edge, and returns the number of the leaf. */
   Result<std::size_t> new_latch(Signal next, Signal init) noexcept { return latch(next, true, init); }
-  /* Makes a free leaf the leaf of the last latch, which has no initial edge. */
+  /* Adds a latch without an initial edge, whose leaf is a free leaf of the circuit. */
   Status add_latch(std::size_t node, Signal next) noexcept { return latch_at(node, next, false, Edge()); }
-  /* Makes a free leaf the leaf of the last latch, which has an initial edge. */
+  /* Adds a latch with an initial edge, whose leaf is a free leaf of the circuit. */
   Status add_latch(std::size_t node, Signal next, Signal init) noexcept { return latch_at(node, next, true, init); }
-  /* Replaces the next edge of latch `i`, from 0 on. */
+  /* Replaces the next edge of latch `i`, counted from 0. */
   Status set_next(std::size_t i, Signal next) noexcept {
     Status status = of(next);
     return status ? perform(aig_circuit_set_next, i, literal(next)) : status;
   }
-  /* Replaces the initial edge of latch `i`, from 0 on. */
+  /* Replaces the initial edge of latch `i`, counted from 0. */
   Status set_init(std::size_t i, Signal init) noexcept {
     Status status = of(init);
     return status ? perform(aig_circuit_set_init, i, true, literal(init)) : status;
   }
-  /* Drops the initial edge of latch `i`, from 0 on. */
+  /* Removes the initial edge of latch `i`, counted from 0. */
   Status clear_init(std::size_t i) noexcept { return perform(aig_circuit_set_init, i, false, 0u); }
 
   /* ---- gates */
 
-  /* Adds a gate, the and of two edges. */
+  /* Adds a gate for the and of two edges. */
   Result<Edge> trivial_new_and_node(Signal a, Signal b) noexcept { return gate(aig_circuit_trivial_new_and_node, a, b); }
-  /* Returns the and of two edges, without a gate if one is constant or both have one node. */
+  /* Returns the and of two edges. If one edge is constant, or both have the same node, no gate is added. */
   Result<Edge> new_and_node(Signal a, Signal b) noexcept { return gate(aig_circuit_new_and_node, a, b); }
-  /* Adds a gate for the or of two edges: the inverse of the gate of their inverses. */
+  /* Adds a gate for the or of two edges. The returned edge is the inverse of a gate for the and of their inverses. */
   Result<Edge> trivial_new_or_node(Signal a, Signal b) noexcept { return gate(aig_circuit_trivial_new_or_node, a, b); }
-  /* Returns the or of two edges: the inverse of `new_and_node` of their inverses. */
+  /* Returns the or of two edges, which is the inverse of `new_and_node` of their inverses. */
   Result<Edge> new_or_node(Signal a, Signal b) noexcept { return gate(aig_circuit_new_or_node, a, b); }
-  /* Returns an edge that is true if the first edge implies the second. */
+  /* Returns an edge that is true if and only if the first edge implies the second. */
   Result<Edge> new_imply_node(Signal a, Signal b) noexcept { return gate(aig_circuit_new_imply_node, a, b); }
-  /* Returns an edge that is true if two edges are equal. */
+  /* Returns an edge that is true if and only if two edges are equal. */
   Result<Edge> new_eq_node(Signal a, Signal b) noexcept { return gate(aig_circuit_new_eq_node, a, b); }
-  /* Returns the and of edges, joined from the left, with a gate for each after the first. Of none it is true. */
+  /* Returns the and of edges, combined from left to right, with a gate for each edge after the first. If there are no edges, the result
+   * is true. */
   Result<Edge> trivial_new_ands_node(View<Edge> edges) noexcept { return gate(aig_circuit_trivial_new_ands_node, edges); }
-  /* Returns the and of edges, joined from the left by `new_and_node`. Of none it is true. */
+  /* Returns the and of edges, combined from left to right by `new_and_node`. If there are no edges, the result is true. */
   Result<Edge> new_ands_node(View<Edge> edges) noexcept { return gate(aig_circuit_new_ands_node, edges); }
-  /* Returns the inverse of `trivial_new_ands_node` of the inverses. Of none it is false. */
+  /* Returns the or of edges, which is the inverse of `trivial_new_ands_node` of their inverses. If there are no edges, the result is
+   * false. */
   Result<Edge> trivial_new_ors_node(View<Edge> edges) noexcept { return gate(aig_circuit_trivial_new_ors_node, edges); }
-  /* Returns the inverse of `new_ands_node` of the inverses. Of none it is false. */
+  /* Returns the or of edges, which is the inverse of `new_ands_node` of their inverses. If there are no edges, the result is false. */
   Result<Edge> new_ors_node(View<Edge> edges) noexcept { return gate(aig_circuit_new_ors_node, edges); }
-  /* Gives a gate other operands. */
+  /* Replaces the operands of a gate. */
   Status set_node(std::size_t node, Signal a, Signal b) noexcept {
     if (Status status = of(a); !status) return status;
     if (Status status = of(b); !status) return status;
@@ -428,7 +435,7 @@ public:
     Status status = of(edge);
     return status ? perform(aig_circuit_push_edge, list, literal(edge)) : status;
   }
-  /* Replaces entry `i` of a list, from 0 on. */
+  /* Replaces entry `i` of a list, counted from 0. */
   Status set_edge(std::uint32_t list, std::size_t i, Signal edge) noexcept {
     Status status = of(edge);
     return status ? perform(aig_circuit_set_edge, list, i, literal(edge)) : status;
@@ -446,9 +453,9 @@ public:
 
   /* ---- names */
 
-  /* Returns the name of a node, in UTF-8. AIG_NO_NAME says that it has none. */
+  /* Returns the name of a node, in UTF-8. The status is AIG_NO_NAME if the node has no name. */
   Result<List<char>> get_symbol(std::size_t node) noexcept { return text_of(aig_circuit_get_symbol, node); }
-  /* Names a node, in UTF-8. */
+  /* Sets the name of a node, in UTF-8. */
   Status set_symbol(std::size_t node, std::string_view name) noexcept {
     View<std::uint8_t> bytes(name);
     return perform(aig_circuit_set_symbol, node, bytes.data(), bytes.size());
@@ -456,7 +463,7 @@ public:
 
   /* ---- what a circuit has */
 
-  /* Returns how many nodes there are, node 0 among them. */
+  /* Returns the number of nodes, including node 0. */
   Result<std::size_t> num_nodes() noexcept { return told<std::size_t>(aig_circuit_num_nodes); }
   /* Returns the nodes, in order. */
   Result<List<aig_node_t>> nodes() noexcept {
@@ -468,25 +475,25 @@ public:
   Result<List<aig_latch_t>> latchs() noexcept { return listed<aig_latch_t>(ROOM, aig_circuit_latchs); }
   /* Returns the entries of a list, in order. */
   Result<List<Edge>> edges(std::uint32_t list) noexcept { return edges_of(aig_circuit_edges, list); }
-  /* Returns how many justice properties there are. */
+  /* Returns the number of justice properties. */
   Result<std::size_t> num_justice() noexcept { return told<std::size_t>(aig_circuit_num_justice); }
-  /* Returns the edges of justice property `i`, from 0 on. */
+  /* Returns the edges of justice property `i`, counted from 0. */
   Result<List<Edge>> justice(std::size_t i) noexcept { return edges_of(aig_circuit_justice, i); }
-  /* Returns the numbers of the gates, rising. */
+  /* Returns the numbers of the gates, in increasing order. */
   Result<List<std::size_t>> ands() noexcept { return listed<std::size_t>(ROOM, aig_circuit_ands); }
-  /* Returns the numbers of the nodes that have names, rising. */
+  /* Returns the numbers of the nodes that have names, in increasing order. */
   Result<List<std::size_t>> symbols() noexcept { return listed<std::size_t>(ROOM, aig_circuit_symbols); }
-  /* Returns whether there is a node of this number. */
+  /* Returns whether a node with this number exists. */
   Result<bool> has_node(std::size_t node) noexcept { return told<bool>(aig_circuit_has_node, node); }
-  /* Returns whether the node of an edge is there. */
+  /* Returns whether the node of an edge exists. */
   Result<bool> has_edge(Edge edge) noexcept { return told<bool>(aig_circuit_has_edge, edge.literal()); }
-  /* Returns whether a node is there and is a free leaf. */
+  /* Returns whether a node exists and is a free leaf. */
   Result<bool> is_free_leaf(std::size_t node) noexcept { return told<bool>(aig_circuit_is_free_leaf, node); }
-  /* Returns whether no leaf is free. */
+  /* Returns whether the circuit has no free leaves. */
   Result<bool> is_closed() noexcept { return told<bool>(aig_circuit_is_closed); }
-  /* Returns whether there are at most 2^31 nodes. */
+  /* Returns whether the circuit has at most 2^31 nodes. */
   Result<bool> fits_lits() noexcept { return told<bool>(aig_circuit_fits_lits); }
-  /* Returns whether `set_node` takes this. */
+  /* Returns whether `set_node` accepts these arguments. */
   Result<bool> admits(std::size_t node, Edge a, Edge b) noexcept {
     return told<bool>(aig_circuit_admits, node, a.literal(), b.literal());
   }
@@ -496,48 +503,48 @@ public:
     return &from == this ? Result<bool>(true) : told<bool>(aig_circuit_begins_with, from.handle());
   }
 
-  /* ---- cones: for each node whether it is in the cone */
+  /* ---- cones: each call returns for each node whether it is in the cone */
 
-  /* Returns what edges reach along operands, their own nodes among it. */
+  /* Returns the nodes of the given edges, and all nodes that can be reached from them along operands. */
   Result<List<bool>> fanin_logic_cone(View<Edge> edges) noexcept {
     return listed<bool>(num_nodes().value_or(0), aig_circuit_fanin_logic_cone, literals(edges), edges.size());
   }
-  /* Returns node 0, these nodes, and what they reach along operands and next edges. */
+  /* Returns node 0, the given nodes, and all nodes that can be reached from them along operands and next edges. */
   Result<List<bool>> coi(View<std::size_t> roots) noexcept {
     return listed<bool>(num_nodes().value_or(0), aig_circuit_coi, roots.data(), roots.size());
   }
 
-  /* ---- transforms: each puts another circuit in place of the circuit */
+  /* ---- transforms: each call replaces the circuit by another one */
 
-  /* Cuts the circuit to its cone of influence. */
+  /* Replaces the circuit by its cone of influence. */
   Status coi_refine() noexcept { return perform(aig_circuit_coi_refine); }
   /* Appends the nodes of another circuit, and the entries of all its lists. */
   Status merge(Circuit &other) noexcept { return with(other, aig_circuit_merge); }
   /* Moves the constraints into the first bad edge and the first output. */
   Status aig_move() noexcept { return perform(aig_circuit_aig_move); }
-  /* Replaces the bad edges by one, their or. */
+  /* Replaces the bad edges by one bad edge, which is their or. */
   Status compress_property() noexcept { return perform(aig_circuit_compress_property); }
   /* Replaces initial edges that aren't constant by constraints. */
   Status gate_init_to_constraint() noexcept { return perform(aig_circuit_gate_init_to_constraint); }
-  /* Numbers inputs first, then the leaves of latches, then gates. */
+  /* Renumbers the nodes: inputs first, then the leaves of latches, then gates. */
   Status reencode() noexcept { return perform(aig_circuit_reencode); }
-  /* Adds one step of another circuit, of which this one holds the steps so far. */
+  /* Adds one step of another circuit to this circuit, which contains the previous steps. */
   Status unroll(Circuit &from) noexcept { return with(from, aig_circuit_unroll); }
   /* Adds `k` further steps. */
   Status unroll_to(std::size_t k) noexcept { return perform(aig_circuit_unroll_to, k); }
-  /* Lets gates share one node where their trees are equal (structural hashing). */
+  /* Merges all gates whose trees are equal (structural hashing). */
   Status strash() noexcept { return perform(aig_circuit_strash); }
 
   /* ---- clauses and values */
 
-  /* Returns the clauses as DIMACS numbers, with a 0 after each. */
+  /* Returns the clauses as DIMACS numbers, with a 0 after each clause. */
   Result<List<std::int32_t>> cnf(bool optimize) noexcept { return listed<std::int32_t>(ROOM, aig_circuit_cnf, optimize); }
-  /* Returns the value of each node where inputs and latches have these values: AIG_FALSE, AIG_TRUE or AIG_UNKNOWN. */
+  /* Returns the value of each node for the given values of inputs and latches. A value is AIG_FALSE, AIG_TRUE or AIG_UNKNOWN. */
   Result<List<std::uint8_t>> ternary_simulate(View<std::uint8_t> inputs, View<std::uint8_t> state) noexcept {
     return listed<std::uint8_t>(num_nodes().value_or(0), aig_circuit_ternary_simulate, inputs.data(), inputs.size(),
                                 state.data(), state.size());
   }
-  /* Values one step that begins in this state, a value for each of `count` latches, and puts the state that follows in its place. */
+  /* Simulates one step from the given state, which has a value for each of `count` latches, and replaces the state by the next state. */
   Result<List<std::uint8_t>> simulate(std::uint8_t *state, std::size_t count, View<std::uint8_t> inputs) noexcept {
     std::uint8_t none = 0;
     std::uint8_t *at = count ? state : &none;
@@ -555,7 +562,7 @@ private:
     if (Status status = of(init); !status) return status;
     return perform(aig_circuit_add_latch, node, literal(next), has_init, literal(init));
   }
-  /* Makes a call with the handle of another circuit, or with that of a copy where it is the same one. */
+  /* Makes a call with the handle of another circuit. If it is the same circuit, makes the call with a copy. */
   Status with(Circuit &other, std::uint32_t (*call)(aig_circuit_t *, aig_circuit_t *)) noexcept {
     if (!holds() || !other.holds()) return AIG_EMPTY;
     if (&other != this) return perform(call, other.handle());
@@ -564,10 +571,10 @@ private:
   }
 };
 
-/* A simulation in three values, of a circuit of its own, which is moved, and copied by `clone`. */
+/* A simulation with three values, of a copy of a circuit. It can be moved, and `clone` copies it. */
 class Simulation : public Held<aig_simulation_t, aig_simulation_free> {
 public:
-  /* Makes a simulation of a copy of a circuit, which begins in this state: a value for each latch, in order. */
+  /* Returns a simulation of a copy of a circuit. It begins in the given state, which has a value for each latch, in order. */
   static Result<Simulation> make(Circuit &circuit, View<std::uint8_t> state) noexcept {
     if (!circuit.holds()) return Status(AIG_EMPTY);
     Simulation made;
@@ -576,33 +583,34 @@ public:
     });
     return status ? Result<Simulation>(std::move(made)) : Result<Simulation>(status);
   }
-  /* Makes a copy. */
+  /* Returns a copy. */
   Result<Simulation> clone() noexcept {
     Simulation made;
     Status status = made.put([this](aig_simulation_t *to) { return perform(aig_simulation_clone, to).code(); });
     return status ? Result<Simulation>(std::move(made)) : Result<Simulation>(status);
   }
-  /* Values one step with these inputs, and moves the state to that which follows. */
+  /* Simulates one step with the given inputs, and replaces the state by the next state. */
   Status simulate(View<std::uint8_t> inputs) noexcept {
     return perform(aig_simulation_simulate, inputs.data(), inputs.size());
   }
-  /* Returns whether a step was valued and the node of an edge is there. */
+  /* Returns whether an edge has a value. This is the case if a step was simulated and the node of the edge exists. */
   Result<bool> has_value(Edge edge) noexcept { return told<bool>(aig_simulation_has_value, edge.literal()); }
   /* Returns the value of an edge in the last step. */
   Result<std::uint8_t> value(Edge edge) noexcept { return told<std::uint8_t>(aig_simulation_value, edge.literal()); }
   /* Returns the state in which the next step begins. */
   Result<List<std::uint8_t>> state() noexcept { return listed<std::uint8_t>(ROOM, aig_simulation_state); }
-  /* Values `steps` steps one after another, and returns the value of an edge in each. `inputs` has the values of each step in turn. */
+  /* Simulates `steps` steps, and returns the value of an edge in each step. `inputs` contains the values for each step, one step after
+   * the other. */
   Result<List<std::uint8_t>> simulate_all(View<std::uint8_t> inputs, std::size_t steps, Edge edge) noexcept {
     const std::size_t room = steps < ROOM ? steps : ROOM;
     return listed<std::uint8_t>(room, aig_simulation_simulate_all, inputs.data(), inputs.size(), steps, edge.literal());
   }
 };
 
-/* A copy of a circuit that is unrolled step by step, which is moved. */
+/* A copy of a circuit that is unrolled step by step. It can be moved. */
 class Unrolling : public Held<aig_unrolling_t, aig_unrolling_free> {
 public:
-  /* Makes a copy of a circuit, which has no further step yet. */
+  /* Returns an unrolling of a copy of a circuit, without further steps. */
   static Result<Unrolling> make(Circuit &circuit) noexcept {
     if (!circuit.holds()) return Status(AIG_EMPTY);
     Unrolling made;
@@ -611,13 +619,13 @@ public:
   }
   /* Adds a step. */
   Status add_step() noexcept { return perform(aig_unrolling_add_step); }
-  /* Returns how many steps were added. */
+  /* Returns the number of steps that were added. */
   Result<std::size_t> steps() noexcept { return told<std::size_t>(aig_unrolling_steps); }
-  /* Returns the clauses of a step as DIMACS numbers, with a 0 after each. */
+  /* Returns the clauses of a step as DIMACS numbers, with a 0 after each clause. */
   Result<List<std::int32_t>> step_clauses(std::size_t step) noexcept {
     return listed<std::int32_t>(ROOM, aig_unrolling_step_clauses, step);
   }
-  /* Returns the clauses of initial values as DIMACS numbers, with a 0 after each. */
+  /* Returns the clauses of initial values as DIMACS numbers, with a 0 after each clause. */
   Result<List<std::int32_t>> initial_clauses() noexcept { return listed<std::int32_t>(ROOM, aig_unrolling_initial_clauses); }
   /* Returns the bad edges of a step, in order. */
   Result<List<Edge>> bads(std::size_t step) noexcept { return edges_of(aig_unrolling_bads, step); }
@@ -629,7 +637,7 @@ public:
   Status check_refuted(std::size_t step, View<std::uint8_t> proof) noexcept {
     return perform(aig_unrolling_check_refuted, step, proof.data(), proof.size());
   }
-  /* Checks a proof that no bad state is ever reached, if none is at the steps 0 to `k` (k-induction). */
+  /* Checks a proof that no bad state is ever reached if none is reached at the steps 0 to `k` (k-induction). */
   Status check_inductive(std::size_t k, View<std::uint8_t> proof) noexcept {
     return perform(aig_unrolling_check_inductive, k, proof.data(), proof.size());
   }

@@ -1,12 +1,13 @@
 #!/usr/bin/env python3
 """Writes the clients of the library for C from include/aig.h.
 
-The header's declarations and their comments are the table of the calls. Of it are made lib/python/aig_calls.py, lib/rust/src/calls.rs and
-made.rs, and tests/clients/made.h and made.rs, by which rows are run through each call that gives bytes or numbers or checks something. Of
-the calls on circuits in memory only the declarations are made, for Python in aig_calls.py and for Rust in handle_calls.rs.
-One number is returned alone, and several as what RESULTS says, which is written by hand, as is each call with other results.
+The declarations of the header and their comments are the table of the calls. From this table, the script generates
+lib/python/aig_calls.py, lib/rust/src/calls.rs and made.rs. It also generates tests/clients/made.h and made.rs, with which tests run rows
+by each call that returns bytes or numbers or checks something. For the calls on circuits in memory it generates only the declarations,
+for Python in aig_calls.py and for Rust in handle_calls.rs. A call with one number returns this number, and a call with several numbers
+returns the type in RESULTS, which is written by hand. Calls with other results are written by hand, too.
 
-These files are not kept by git: ./install, lib/rust/build.rs and the tests have them made. One that is as it should be stays untouched.
+These files aren't in git. ./install, lib/rust/build.rs and the tests run this script. A file that is up to date isn't written again.
 """
 import os
 import pathlib
@@ -17,7 +18,7 @@ TOP = pathlib.Path(__file__).resolve().parent.parent
 DECLARED = re.compile(r"^/\* ((?:(?!\*/).)*?) \*/\nuint32_t (\w+)\(([^)]*)\);", re.MULTILINE | re.DOTALL)
 HANDLED = re.compile(r"^(uint32_t|void) (\w+)\(([^)]*)\);", re.MULTILINE)
 WRITTEN = "written by lib/clients.py from include/aig.h"
-# How wide lines of code and of comments are, as elsewhere.
+# The width of lines of code and of comments.
 WIDTH = 138
 OUT = [("uint8_t*", "out"), ("size_t", "out_len"), ("size_t*", "needed")]
 RUST = {"const uint8_t*": "*const u8", "uint8_t*": "*mut u8", "int32_t*": "*mut i32", "size_t*": "*mut usize"}
@@ -26,9 +27,9 @@ RUST |= {"aig_circuit_t*": "*mut Handle", "aig_simulation_t*": "*mut Handle", "a
 RUST |= {"bool*": "*mut bool", "uint32_t*": "*mut u32", "const uint32_t*": "*const u32", "const size_t*": "*const usize"}
 PYTHON = {"uint8_t*": "_U8", "int32_t*": "_I32", "size_t*": "_SIZES", "const uint8_t*": "_TEXT"}
 PYTHON |= {"size_t": "_size", "uint64_t": "_step", "uint32_t": "_U32", "bool": "_bool"}
-# What the calls in Python take from lib/python/aig_library.py.
+# The names that the calls in Python import from lib/python/aig_library.py.
 SHARED = "_I32 _POINTER _SIZES _TEXT _U32 _U8 _bool _bytes _declare _given _hold _number _size _step _steps _told".split()
-# What clients in Rust and Python return of several numbers, whose fields have their names.
+# The types that clients in Rust and Python return for several numbers. Their fields have the names of the numbers.
 RESULTS = {("bad", "step"): "Shown", ("justice", "start", "last"): "Lasso"}
 
 
@@ -64,18 +65,18 @@ class Call:
         # The numbers that it tells, where it gives no bytes.
         self.told = [] if self.gives else [word for kind, word in self.parameters if kind == "size_t*"]
         taken = self.parameters[: -3 if self.gives else len(self.parameters) - len(self.told)]
-        # Each slice is one word, and its length none.
+        # A slice is one word, without a word for its length.
         self.taken = [(kind, word) for i, (kind, word) in enumerate(taken) if not (i and taken[i - 1][0].endswith("8_t*"))]
         # The rest is written by hand.
         self.is_plain = self.name != "message" and not any(kind == "int32_t*" for kind, _ in self.taken)
 
     def says(self, names):
-        """The comment, as it is of another language."""
-        text = self.doc.replace("AIG_DONE only where", names).replace("`*", "`")
+        """Returns the comment for another language, in which `names` stands for the success of a check."""
+        text = self.doc.replace("Returns AIG_DONE only if", names).replace("`*", "`")
         return re.sub(r"`aig_(\w+)`", r"`\1`", text)
 
     def result(self, gives, nothing, number):
-        """What a client returns, by the names of its language."""
+        """Returns the result type of a client, in the names of its language."""
         if self.gives or not self.told:
             return gives if self.gives else nothing
         return RESULTS[tuple(self.told)] if self.told[1:] else number
@@ -86,7 +87,7 @@ def calls():
 
 
 def laid_out(before, words, after, indent=""):
-    """A list of words on one line, or where that is too long on a line each."""
+    """Returns a list of words on one line, or on one line each if one line is too long."""
     line = f"{indent}{before}{', '.join(words)}{after}"
     if len(line) <= WIDTH:
         return line
@@ -98,7 +99,7 @@ def comment(text, start, less=0):
 
 
 class HandleCall:
-    """A call on a circuit or simulation in memory: whether it gives a status, its name, and its parameters."""
+    """A call on a circuit or simulation in memory: whether it returns a status, its name, and its parameters."""
 
     def __init__(self, kind, name, given):
         self.has_status, self.full = kind != "void", name
@@ -131,7 +132,7 @@ def rust_call(call):
         numbers = "".join(f"let mut {word} = 0;\n    " for word in call.told)
         told = ", ".join(call.told)
         body = f"{numbers}{body}\n    Ok({f'{result} {{ {told} }}' if call.told[1:] else told})"
-    doc = comment(call.says("Done only where"), "/// ")
+    doc = comment(call.says("Succeeds only if"), "/// ")
     return f"{doc}\npub fn {call.name}({takes}) -> Result<{result}> {{\n    {body}\n}}\n"
 
 
@@ -157,7 +158,7 @@ def rust_files(found):
 
 
 def word_of(call, file, number, setting):
-    """The words of a row for each that the call takes: its files and its numbers in order, and its settings."""
+    """Returns the words of a row for each parameter of the call: its files and its numbers in order, and its options."""
     files, numbers = (iter(range(len(call.taken))) for _ in range(2))
     for kind, word in call.taken:
         yield file(next(files)) if kind.endswith("*") else setting(word) if kind == "bool" else number(next(numbers), kind)
@@ -182,14 +183,14 @@ def python_call(call):
     does, end = ("return _bytes" if call.gives else "_hold", ")")
     if call.told:
         does, end = (f"return {result}(*_told", "))") if call.told[1:] else ("return _told", ")[0]")
-    doc = comment(call.says("Returns only where"), "    ", 3)
+    doc = comment(call.says("Returns only if"), "    ", 3)
     doc = f'    """{doc[4:]}"""' if len(doc) < WIDTH - 3 and "\n" not in doc else f'    """{doc[4:]}\n    """'
     head = laid_out(f"def {call.name}(", takes, f") -> {result}:")
     return f"{head}\n{doc}\n{laid_out(f'{does}(', words, end, '    ')}\n"
 
 
 def python_handle_calls():
-    """What the calls on circuits in memory take: any pointer as one."""
+    """Returns the declarations of the calls on circuits in memory, in which all pointers have the same type."""
     text = ""
     for has_status in (True, False):
         found = [call for call in handle_calls() if call.has_status == has_status]

@@ -1,3 +1,3 @@
-"""Makes packages of what was proved and built: the package of ./dist."""
+"""The package of ./dist, which packs the proved programs and libraries."""
 NAME = "aig"
 SUMMARY = "Questions about digital hardware, and answers that a proved program has checked"

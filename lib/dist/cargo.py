@@ -1,4 +1,4 @@
-"""A crate of Rust with the library, as cargo packs one."""
+"""Packs a Rust crate with the library, in the format of cargo."""
 from __future__ import annotations
 
 from aigprove.release import Release
@@ -6,12 +6,12 @@ from dist import NAME
 from dist.files import File, Tree, archive, below, read
 from dist.layout import DOCUMENTS, TOP, library
 
-# Where build.rs looks for the library, if the crate lies outside of its repository.
+# The folder in which build.rs searches for the library, if the crate is outside of its repository.
 NATIVE = "native"
 
 
 def files(documents: Tree, known: Release) -> Tree:
-    """Returns the files of the crate, whose calls are made of the header before."""
+    """Generates the calls from the header, and returns the files of the crate."""
     crate = TOP / "lib" / "rust"
     sources = sorted(it.relative_to(crate) for it in (crate / "src").rglob("*.rs"))
     found = {str(path): read(crate, str(path)) for path in sources}

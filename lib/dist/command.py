@@ -50,8 +50,8 @@ def epoch() -> int:
 
 
 def needed() -> tuple[int, int]:
-    """Returns the version of glibc that the programs and the library need, once it is seen that
-    they need nothing else."""
+    """Returns the version of glibc that the programs and the library need. Ends the program if they
+    need another library."""
     files = [*map(program, PROGRAMS), library("libaig.so")]
     for file in files:
         if (others := elf.libraries(file)) != ["libc.so.6"]:
@@ -62,7 +62,7 @@ def needed() -> tuple[int, int]:
 
 
 def packages(known: Release, time: int) -> Iterator[tuple[str, bytes]]:
-    """Yields the names and the bytes of all packages, and of the list of what is in them."""
+    """Yields the names and the bytes of all packages, and of the list of their contents."""
     tree: Tree = {**programs(known), **libraries(), **documents()}
     glibc, who, stem = needed(), holder(TOP), f"{NAME}-{known.version}"
     listed = contents(tree, known, time)
@@ -83,14 +83,14 @@ def packages(known: Release, time: int) -> Iterator[tuple[str, bytes]]:
 
 
 def built() -> Release:
-    """Returns the release that this clone makes, once its programs are built."""
+    """Returns the release that this clone builds. Its programs have to be built."""
     if missing := [name for name in PROGRAMS if not program(name).is_file()]:
         sys.exit(f"dist: {missing[0]} isn't built: run tests/run, ./build or rt ci first")
     return current()
 
 
 def install(prefix: pathlib.Path) -> None:
-    """Installs what was built below a prefix."""
+    """Installs the built files below a prefix."""
     compiler = shlex.split(os.environ.get("CC") or "cc")[0]
     tree: Tree = {**programs(built()), **documents()}
     if shutil.which(compiler):
@@ -105,7 +105,7 @@ def install(prefix: pathlib.Path) -> None:
 
 
 def make(out: pathlib.Path) -> None:
-    """Puts all packages into a folder, with their sums."""
+    """Writes all packages into a folder, with their SHA-256 sums."""
     known = complete()
     out.mkdir(parents=True, exist_ok=True)
     sums = []
@@ -117,8 +117,8 @@ def make(out: pathlib.Path) -> None:
 
 
 def stale() -> str:
-    """Returns the name of a program that is older than a file of the crates or says that it is of
-    another version, if there is one."""
+    """Returns the name of a program that is older than a file of the crates, or whose version is
+    different, or None if there is no such program."""
     sources = [it for part in ["src", "specs", "proofs"] for it in CRATES.glob(f"*/{part}/**/*")]
     newest = max(it.stat().st_mtime for it in sources)
     for name in PROGRAMS:
@@ -130,8 +130,8 @@ def stale() -> str:
 
 
 def complete() -> Release:
-    """Returns the release that this clone makes, once all that it tells of is known, and its
-    programs are of its crates."""
+    """Returns the release that this clone builds. Ends the program if some of its data are unknown,
+    or if a program wasn't built from these crates."""
     known = built()
     if not known.kit:
         sys.exit("dist: there is no rt, whose kit the packages tell of")
@@ -150,7 +150,7 @@ def make_release() -> None:
 
 
 def compare() -> int:
-    """Compares what was built with the release in the repository, and returns the exit status."""
+    """Compares the built files with the release in the repository, and returns the exit status."""
     now = current()
     if prebuilt.is_of(now):
         complete()

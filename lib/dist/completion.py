@@ -1,6 +1,6 @@
-"""Completion of the programs' words, for the shells bash, zsh and fish.
+"""Completion of the programs' command lines, for the shells bash, zsh and fish.
 
-What words a program takes is read from its own usage line; those of aigprove are in its parser."""
+The words of a program are read from its usage line, and those of aigprove from its parser."""
 from __future__ import annotations
 
 import argparse
@@ -13,14 +13,14 @@ from typing import NamedTuple
 from aigprove.options.parser import make_parser
 from dist.files import File, Tree
 
-# What stands for the path of a file or folder behind an option.
+# Stands for a value that is the path of a file or folder.
 PATHS = {"FILE", "LIST", "FOLDER", "OTHER", "CERT", "OUT", "WITNESS", "PROGRAM"}
 OPTION = re.compile(r"(--[a-z-]+)(?: ([A-Z]+|[a-z]+(?:\|[a-z]+)+))?")
 ALIKE = re.compile(r"(\S+) and (\S+) as (\S+)")
 
 
 class Option(NamedTuple):
-    """An option: its flags, what stands behind it, the words that this may be, and its help."""
+    """An option: its flags, the kind of its value, the possible values, and its help text."""
 
     flags: tuple[str, ...]
     value: str = ""
@@ -29,7 +29,8 @@ class Option(NamedTuple):
 
 
 class Words(NamedTuple):
-    """What a program takes: options, and commands with the words that may stand behind each."""
+    """The words that a program accepts: options, and commands with the words that may follow each
+    command."""
 
     name: str
     options: list[Option]
@@ -37,7 +38,7 @@ class Words(NamedTuple):
 
 
 def of_usage(name: str, usage: str) -> Words:
-    """Returns what a program takes whose usage line this is."""
+    """Returns the words that a program with this usage line accepts."""
     found = {flag: Option((flag,), value, tuple(value.split("|")) if "|" in value else ())
              for flag, value in OPTION.findall(usage)}
     commands: dict[str, list[str]] = {}
@@ -56,7 +57,7 @@ def of_usage(name: str, usage: str) -> Words:
 
 
 def of_program(path: pathlib.Path) -> Words:
-    """Returns what a program takes, as it tells."""
+    """Runs a program with --help, and returns the words that it accepts."""
     said = subprocess.run([path], stdin=subprocess.DEVNULL, capture_output=True).stderr.decode()
     words = of_usage(path.name, said)
     for flag in ["--help", "--version"]:
@@ -66,7 +67,7 @@ def of_program(path: pathlib.Path) -> Words:
 
 
 def of_parser() -> Words:
-    """Returns what aigprove takes."""
+    """Returns the words that aigprove accepts."""
     actions = [it for it in make_parser()._actions
                if it.option_strings and it.help != argparse.SUPPRESS]
     options = [Option(tuple(it.option_strings), str(it.metavar or "") if it.nargs != 0 else "",
@@ -77,7 +78,7 @@ def of_parser() -> Words:
 # ---- bash
 
 def in_bash(words: Words) -> Iterator[str]:
-    """Yields the lines of a function that completes the words of a program in bash."""
+    """Yields the lines of a function that completes the command line of a program in bash."""
     flags = " ".join(flag for option in words.options for flag in option.flags)
     yield f"_{words.name}() {{"
     yield '  local word=${COMP_WORDS[COMP_CWORD]} command= i'
@@ -99,7 +100,7 @@ def in_bash(words: Words) -> Iterator[str]:
 
 
 def bash_commands(commands: dict[str, list[str]]) -> Iterator[str]:
-    """Yields the lines that complete a command, or the words behind it, in bash."""
+    """Yields the lines that complete a command, or the words after it, in bash."""
     names = " ".join(commands)
     yield "  for ((i = 1; i < COMP_CWORD && ${#command} == 0; i++)); do"
     yield f'    [[ " {names} " != *" ${{COMP_WORDS[i]}} "* ]] || command=${{COMP_WORDS[i]}}'
@@ -135,7 +136,7 @@ def quoted(text: str, special: str) -> str:
 
 
 def zsh_option(option: Option) -> str:
-    """Returns how zsh is told of an option."""
+    """Returns the description of an option for zsh."""
     value = ""
     if option.value or option.choices:
         behind = f"({' '.join(option.choices)})" if option.choices \
@@ -148,7 +149,7 @@ def zsh_option(option: Option) -> str:
 
 
 def in_zsh(words: Words) -> Iterator[str]:
-    """Yields the lines of a file that completes the words of a program in zsh."""
+    """Yields the lines of a file that completes the command line of a program in zsh."""
     yield f"#compdef {words.name}"
     yield "local state"
     operands = ["1:command:(" + " ".join(words.commands) + ")", "*: :->operands"] \
@@ -169,7 +170,7 @@ def in_zsh(words: Words) -> Iterator[str]:
 # ---- fish
 
 def fish_option(name: str, option: Option) -> str:
-    """Returns how fish is told of an option."""
+    """Returns the description of an option for fish."""
     made = f"complete -c {name}"
     for flag in option.flags:
         made += f" -l {flag[2:]}" if flag.startswith("--") else f" -s {flag[1:]}"
@@ -181,12 +182,12 @@ def fish_option(name: str, option: Option) -> str:
 
 
 def fish_text(text: str) -> str:
-    """Returns a text as it stands in single quotes of fish."""
+    """Returns a text, escaped for single quotes of fish."""
     return text.replace("\\", "\\\\").replace("'", "\\'")
 
 
 def in_fish(words: Words) -> Iterator[str]:
-    """Yields the lines of a file that completes the words of a program in fish."""
+    """Yields the lines of a file that completes the command line of a program in fish."""
     yield from (fish_option(words.name, option) for option in words.options)
     names = " ".join(words.commands)
     if names:
@@ -200,7 +201,7 @@ def in_fish(words: Words) -> Iterator[str]:
 
 # ---- files
 
-# How the files of each shell are called below a prefix.
+# The names of the files of each shell below a prefix.
 PLACES = {"bash": "share/bash-completion/completions/{}", "zsh": "share/zsh/site-functions/_{}",
           "fish": "share/fish/vendor_completions.d/{}.fish"}
 
@@ -213,7 +214,8 @@ def texts(words: Words) -> dict[str, str]:
 
 
 def completions(programs: Iterable[pathlib.Path]) -> Tree:
-    """Returns the files, below a prefix, by which shells complete the words of all programs."""
+    """Returns the files, below a prefix, with which shells complete the command lines of all
+    programs."""
     return {PLACES[shell].format(words.name): File(text.encode())
             for words in [*map(of_program, programs), of_parser()]
             for shell, text in texts(words).items()}

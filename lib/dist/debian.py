@@ -1,4 +1,4 @@
-"""A Debian package, which dpkg-deb makes of a folder."""
+"""Builds a Debian package, by running dpkg-deb on a folder."""
 from __future__ import annotations
 
 import os
@@ -12,7 +12,8 @@ from dist.files import File, Tree, packed, write
 from dist.layout import DOCUMENTS, pkg_config
 
 ARCHITECTURE, TRIPLE = "amd64", "x86_64-linux-gnu"
-# The folders below a prefix that are elsewhere in Debian, which needs no path to its libraries.
+# The folders below a prefix that have other paths in Debian. They need no path to the libraries
+# there.
 PLACES = {
     "lib/lib": f"usr/lib/{TRIPLE}/lib",
     "lib/pkgconfig/": f"usr/lib/{TRIPLE}/pkgconfig/",
@@ -21,9 +22,9 @@ PLACES = {
     f"{DOCUMENTS}/LICENSE": f"usr/{DOCUMENTS}/copyright",
     f"{DOCUMENTS}/CHANGELOG.md": f"usr/{DOCUMENTS}/changelog",
 }
-# What is packed by gzip there.
+# The files that are compressed by gzip in Debian.
 PACKED = ("usr/share/man/", f"usr/{DOCUMENTS}/changelog")
-# The folders with modules of Python, which are compiled when the package is installed.
+# The folders with Python modules, which are compiled when the package is installed.
 COMPILED = "/usr/lib/aigprove"
 SCRIPTS = {
     "postinst": f"""#!/bin/sh
@@ -80,7 +81,7 @@ def data(tree: Tree, time: int) -> Tree:
 
 
 def control(found: Tree, known: Release, maintainer: str, glibc: tuple[int, int]) -> Tree:
-    """Returns what dpkg reads of the package, and the scripts that it runs."""
+    """Returns the control files of the package, and the scripts that dpkg runs."""
     size = sum(len(it.data) for it in found.values() if isinstance(it, File))
     text = CONTROL.format(
         name=NAME, version=known.version, architecture=ARCHITECTURE, maintainer=maintainer,

@@ -1,6 +1,8 @@
-"""What programs in C rely on: the calls of the headers, the numbers of statuses, and structs.
+"""The interface on which C programs rely: the calls of the headers, the numbers of statuses, and
+structs.
 
-A copy is kept of those of the last release, which later versions of the same number have, too."""
+The repository has a copy of the interface of the last release. Later versions with the same first
+number have to contain this interface."""
 from __future__ import annotations
 
 import re
@@ -24,12 +26,13 @@ def kind(parameter: str) -> str:
 
 
 def kinds(parameters: str, mark: str) -> str:
-    """Returns the types of parameters or fields that a mark separates."""
+    """Returns the types of parameters or fields, which are separated by a given character."""
     return ", ".join(kind(it) for it in parameters.split(mark) if it.strip())
 
 
 def exports() -> Iterator[tuple[str, str]]:
-    """Yields the name of each call, constant and struct, and what programs rely on of it."""
+    """Yields the name of each call, constant and struct, and the part of its declaration on which
+    programs rely."""
     for header in HEADERS:
         if header.endswith(".h"):
             text = COMMENT.sub("", (TOP / "include" / header).read_text(encoding="utf-8"))
@@ -41,14 +44,14 @@ def exports() -> Iterator[tuple[str, str]]:
 
 
 def kept() -> dict[str, str]:
-    """Returns what the last release exported."""
+    """Returns the interface of the last release."""
     lines = KEPT.read_text(encoding="utf-8").splitlines()
     rows = [line.split("\t") for line in lines if not line.startswith("#")]
     return {name: what for name, what in rows}
 
 
 def keep(version: str) -> None:
-    """Keeps what this release exports."""
+    """Writes the copy of the interface of this release."""
     rows = "".join(f"{name}\t{what}\n" for name, what in exports())
     KEPT.write_text(f"# What release {version} exports: written by ./dist --release.\n{rows}",
                     encoding="utf-8")

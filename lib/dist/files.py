@@ -1,4 +1,4 @@
-"""Files of a package, and archives whose bytes depend on nothing but the files and a time."""
+"""Files of a package, and archives whose bytes depend only on the files and a time."""
 from __future__ import annotations
 
 import gzip
@@ -11,7 +11,7 @@ from typing import NamedTuple
 
 
 class File(NamedTuple):
-    """A file's bytes, and whether it is a program."""
+    """The bytes of a file, and whether it is executable."""
 
     data: bytes
     is_program: bool = False
@@ -27,39 +27,39 @@ class Link(NamedTuple):
     target: str
 
 
-# Files and links by their paths, which have slashes and begin with none.
+# Files and links, by their paths. The paths contain slashes, but don't begin with a slash.
 Tree = Mapping[str, File | Link]
 
 
 def read(folder: pathlib.Path, path: str) -> File:
-    """Returns a file as it is in a folder."""
+    """Returns a file of a folder."""
     file = folder / path
     return File(file.read_bytes(), bool(file.stat().st_mode & 0o100))
 
 
 def sum_of(data: bytes) -> str:
-    """Returns the SHA-256 of bytes, as sha256sum prints it."""
+    """Returns the SHA-256 sum of bytes, in the format of sha256sum."""
     return hashlib.sha256(data).hexdigest()
 
 
 def sums_of(tree: Tree) -> dict[str, str]:
-    """Returns the sums of the files of a tree, by their paths."""
+    """Returns the SHA-256 sums of the files of a tree, by their paths."""
     return {path: sum_of(it.data) for path, it in sorted(tree.items()) if isinstance(it, File)}
 
 
 def below(tree: Tree, folder: str) -> Tree:
-    """Returns a tree whose paths are below a folder."""
+    """Returns a tree with all paths moved below a folder."""
     return {f"{folder}/{path}": it for path, it in tree.items()}
 
 
 def folders(tree: Tree) -> Iterator[str]:
-    """Yields the folders of a tree, each behind those that it is in."""
+    """Yields the folders of a tree, each after its parent folders."""
     paths = map(pathlib.PurePosixPath, tree)
     yield from sorted({str(it) for path in paths for it in path.parents} - {"."})
 
 
 def packed(data: bytes, time: int) -> bytes:
-    """Returns bytes as gzip packs them, with this time and without a name."""
+    """Returns bytes compressed by gzip, with the given time and without a name."""
     made = io.BytesIO()
     with gzip.GzipFile(fileobj=made, filename="", mode="wb", compresslevel=9, mtime=time) as file:
         file.write(data)
@@ -67,7 +67,8 @@ def packed(data: bytes, time: int) -> bytes:
 
 
 def archive(tree: Tree, time: int) -> bytes:
-    """Returns a tar archive of a tree, packed by gzip. All is of root and of this time."""
+    """Returns a tar archive of a tree, compressed by gzip. All files belong to root and have the
+    given time."""
     made = io.BytesIO()
     with tarfile.open(fileobj=made, mode="w", format=tarfile.PAX_FORMAT) as tar:
         for path in sorted([*folders(tree), *tree]):
@@ -84,7 +85,8 @@ def archive(tree: Tree, time: int) -> bytes:
 
 
 def write(tree: Tree, folder: pathlib.Path) -> None:
-    """Writes a tree into a folder. A file that is there already is replaced, and not written to."""
+    """Writes a tree into a folder. An existing file is replaced by a new file, and isn't
+    overwritten in place."""
     for path, it in sorted(tree.items()):
         file = folder / path
         file.parent.mkdir(parents=True, exist_ok=True)

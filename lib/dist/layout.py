@@ -1,4 +1,4 @@
-"""What a release is made of, and where each file lies below a prefix."""
+"""The files of a release, and their paths below a prefix."""
 from __future__ import annotations
 
 import pathlib
@@ -14,39 +14,40 @@ from dist.licences import notices, tools
 
 TOP = pathlib.Path(__file__).resolve().parent.parent.parent
 CRATES = TOP / "crates"
-# What builds the library.
+# The files from which the library is built.
 ARCHIVE = TOP / "tests" / "support" / "archive.py"
 PROGRAMS = ["aigtool", "aigedit", "aigcheck"]
 HEADERS = ["aig.h", "aig_circuit.h", "aig.hpp"]
 MODULES = ["aig.py", "aig_calls.py", "aig_circuits.py", "aig_library.py"]
-# By which programs ask for the shared library. Its number is that of incompatible versions.
+# The name with which programs refer to the shared library. Its number changes with each
+# incompatible version.
 SONAME = f"libaig.so.{VERSION.partition('.')[0]}"
 DOCUMENTS = "share/doc/aig"
-# Where pkg-config finds the prefix of a folder that may be moved.
+# The prefix, in a form in which pkg-config finds it even if the folder was moved.
 MOVABLE = "${pcfiledir}/../.."
-# How the linker is told where programs look for the shared library.
+# The linker's option for the path at which programs search for the shared library.
 RPATH = "-Wl,-rpath,${libdir} "
 
 
 def program(name: str) -> pathlib.Path:
-    """Returns where a program is built."""
+    """Returns the path at which a program is built."""
     return CRATES / name / "out" / name
 
 
 def library(name: str) -> pathlib.Path:
-    """Returns where a library is built."""
+    """Returns the path at which a library is built."""
     return CRATES / "aig_calls" / "out" / name
 
 
 def kit() -> str:
-    """Returns the name of the kit whose `rt` is found, as `rt version` prints it; nothing if there
-    is none."""
+    """Returns the name of the kit whose `rt` is found, as `rt version` prints it, or an empty name
+    if there is none."""
     found = tools()
     return (found / "KIT-ID").read_text(encoding="utf-8").strip() if found else ""
 
 
 def current() -> Release:
-    """Returns the release that this clone makes."""
+    """Returns the release that this clone builds."""
     return Release(VERSION, release.tree_of(str(CRATES)), kit())
 
 
@@ -62,7 +63,7 @@ def prover(known: Release) -> Tree:
 
 
 def pkg_config(prefix: str, libdir: str, rpath: str) -> File:
-    """Returns what pkg-config reads."""
+    """Returns the file for pkg-config."""
     text = (TOP / "lib" / "aig.pc").read_text(encoding="utf-8")
     words = {"PREFIX": prefix, "LIBDIR": libdir, "RPATH": rpath, "VERSION": VERSION}
     for name, word in words.items():
@@ -71,13 +72,13 @@ def pkg_config(prefix: str, libdir: str, rpath: str) -> File:
 
 
 def build_library() -> None:
-    """Builds the library, if it isn't there as it is now."""
+    """Builds the library, if it isn't built or isn't up to date."""
     if subprocess.run([ARCHIVE]).returncode:
         sys.exit("dist: the library can't be built, as it says above")
 
 
 def libraries() -> Tree:
-    """Returns the library for C, C++ and Python, once it is built."""
+    """Builds the library for C, C++ and Python if necessary, and returns its files."""
     build_library()
     return {
         **{f"include/{name}": read(TOP / "include", name) for name in HEADERS},
@@ -90,7 +91,7 @@ def libraries() -> Tree:
 
 
 def environment() -> Tree:
-    """Returns the links by which a prefix that is an environment of Python's finds the modules."""
+    """Returns the links that let Python find the modules if the prefix is a virtual environment."""
     site = "lib/python{}.{}/site-packages".format(*sys.version_info[:2])
     return {f"{site}/{name}": Link(f"../../python/{name}") for name in MODULES}
 
@@ -104,13 +105,13 @@ def pages() -> Tree:
 
 
 def documents() -> Tree:
-    """Returns the licences of all that is in the programs, and what has changed."""
+    """Returns the licences of everything in the programs, and the list of changes."""
     own = {name: read(TOP, name) for name in ["LICENSE", "CHANGELOG.md"]}
     return below({**own, **notices()}, DOCUMENTS)
 
 
 def programs(known: Release) -> Tree:
-    """Returns all but the library: the programs, what tells of them, and how shells complete their
-    words."""
+    """Returns all files except the library: the programs, their documentation, and the completion
+    files for shells."""
     built = {f"bin/{name}": File(program(name).read_bytes(), True) for name in PROGRAMS}
     return {**built, **prover(known), **pages(), **completions(map(program, PROGRAMS))}

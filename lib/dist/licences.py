@@ -1,5 +1,5 @@
-"""The list of what is in a release: files with their sums, and parts with versions and licences, in
-the form of SPDX 2.3."""
+"""The list of the contents of a release, in the format SPDX 2.3: files with their sums, and parts
+with versions and licences."""
 from __future__ import annotations
 
 import json
@@ -16,13 +16,13 @@ from dist import NAME, SUMMARY
 from dist.files import File, Tree, sum_of, sums_of
 
 LICENCE = "MIT"
-# The sums of releases are names in this space.
+# The namespace in which the sums of releases are names.
 SPACE = uuid.uuid5(uuid.NAMESPACE_OID, NAME)
 
 
 class Part(NamedTuple):
-    """What is linked into the programs: its licence, the file of the kit that states it, and what
-    it is."""
+    """A part that is linked into the programs: its licence, the file of the kit that states the
+    licence, and a description."""
 
     name: str
     version: str
@@ -32,7 +32,7 @@ class Part(NamedTuple):
 
 
 def parts() -> list[Part]:
-    """Returns what is linked into the programs beside this repository's code."""
+    """Returns the parts that are linked into the programs in addition to this repository's code."""
     text = (pathlib.Path(__file__).parent / "linked.tsv").read_text(encoding="utf-8")
     return [Part(*line.split("\t")) for line in text.splitlines() if not line.startswith("#")]
 
@@ -46,14 +46,14 @@ def tools() -> pathlib.Path | None:
 
 
 def notices() -> Tree:
-    """Returns the licences that the kit states for what is linked in."""
+    """Returns the licences that the kit states for the parts that are linked in."""
     kit = tools()
     return {f"licences/{part.name}": File((kit / part.stated).read_bytes())
             for part in parts() if kit and part.stated != "-"}
 
 
 def holder(top: pathlib.Path) -> str:
-    """Returns whom LICENSE names last, who hold the rights in this repository."""
+    """Returns the holders of the copyright, who are named last in LICENSE."""
     named = re.findall(r"Copyright \(c\) \d+ (.*)", (top / "LICENSE").read_text(encoding="utf-8"))
     return str(named[-1])
 
@@ -64,7 +64,7 @@ def identifier(name: str) -> str:
 
 
 def package(name: str, version: str, licence: str, **more: Any) -> dict[str, Any]:
-    """Returns what the list says of a package."""
+    """Returns the entry of the list for a package."""
     return {"SPDXID": identifier(name), "name": name, "versionInfo": version,
             "downloadLocation": "NOASSERTION", "filesAnalyzed": False,
             "licenseConcluded": licence, "licenseDeclared": licence,
@@ -72,7 +72,7 @@ def package(name: str, version: str, licence: str, **more: Any) -> dict[str, Any
 
 
 def file_rows(sums: Mapping[str, str]) -> list[dict[str, Any]]:
-    """Returns what the list says of each file."""
+    """Returns the entries of the list for the files."""
     return [{"SPDXID": identifier(f"file-{number}"), "fileName": f"./{path}",
              "checksums": [{"algorithm": "SHA256", "checksumValue": value}],
              "licenseConcluded": "NOASSERTION", "copyrightText": "NOASSERTION"}
@@ -80,7 +80,7 @@ def file_rows(sums: Mapping[str, str]) -> list[dict[str, Any]]:
 
 
 def contents(tree: Tree, known: Release, seconds: int) -> File:
-    """Returns the list of what is in a tree, made at this time."""
+    """Returns the list of the contents of a tree, with the given time of creation."""
     sums, linked = sums_of(tree), parts()
     own = package(NAME, known.version, LICENCE, summary=SUMMARY,
                   comment=f"Built from the tree {known.tree} of crates/ by {known.kit}.")

@@ -1,4 +1,5 @@
-"""The programs of the last release, which lie in the repository: by ./dist --release alone."""
+"""The programs of the last release, which are in the repository. Only ./dist --release writes them.
+"""
 from __future__ import annotations
 
 import os
@@ -28,14 +29,14 @@ def linkers() -> str:
 
 
 def built() -> dict[str, File]:
-    """Returns the files that a release has and that were built here."""
+    """Returns the built files that belong to a release."""
     files = {name: File(program(name).read_bytes(), True) for name in PROGRAMS}
     return {**files, SONAME: File(library("libaig.so").read_bytes())}
 
 
 def refresh(known: Release, time: int) -> None:
-    """Puts what was built, its licences and its sums in the place of the last release, and keeps
-    what the library exports."""
+    """Replaces the last release by the built files with their licences and sums, and writes the
+    copy of the library's interface."""
     files: Tree = {**built(), "LICENSE": read(TOP, "LICENSE"), **notices()}
     files = {**files, f"{NAME}.spdx.json": contents(files, known, time)}
     known = known._replace(linkers=linkers(), sums=sums_of(files))
@@ -45,27 +46,28 @@ def refresh(known: Release, time: int) -> None:
 
 
 def changed(known: Release, folder: pathlib.Path) -> list[str]:
-    """Returns the files of a release that aren't as its sums have them."""
+    """Returns the files of a release whose bytes don't match their sums."""
     return [name for name, wanted in known.sums.items()
             if not (folder / name).is_file() or sum_of((folder / name).read_bytes()) != wanted]
 
 
 def other_than(known: Release, has_same_linkers: bool) -> list[str]:
-    """Returns the files that were built here and have other bytes than the release's.
+    """Returns the built files whose bytes differ from those of the release.
 
-    The shared library is left out if other tools linked it."""
+    If other tools linked the shared library, it isn't compared."""
     return [name for name, it in built().items() if known.sums.get(name) != sum_of(it.data)
             and (name != SONAME or has_same_linkers)]
 
 
 def is_of(now: Release) -> bool:
-    """Returns whether the release in the repository is of these crates and this kit."""
+    """Returns whether the release in the repository was built from these crates by this kit."""
     known = release.read(str(FOLDER))
     return known is not None and (known.tree, known.kit) == (now.tree, now.kit)
 
 
 def compared(now: Release) -> tuple[bool, str]:
-    """Returns whether the release in the repository is as it should be, and what is said of it."""
+    """Returns whether the built files match the release in the repository, and a message about
+    this."""
     known = release.read(str(FOLDER))
     if not known:
         return True, "there is no prebuilt release"

@@ -1,4 +1,4 @@
-"""A wheel: an archive that pip installs, with the programs and the modules of Python."""
+"""Packs a wheel: an archive that pip installs, with the programs and the Python modules."""
 from __future__ import annotations
 
 import base64
@@ -27,7 +27,7 @@ Root-Is-Purelib: false
 Tag: {tag}
 """
 COMMANDS = "[console_scripts]\naigprove = aigprove.command:main\n"
-# A script of Python's, whose interpreter pip writes into its first line.
+# A Python script, into whose first line pip writes the interpreter.
 ANY, OWN = b"#!/usr/bin/env python3\n", b"#!python\n"
 
 
@@ -37,7 +37,8 @@ def tag(glibc: tuple[int, int]) -> str:
 
 
 def placed(path: str, scripts: str, info: str) -> str | None:
-    """Returns where a file of a prefix lies in the wheel, if it does."""
+    """Returns the path of a file of a prefix in the wheel, or None if the wheel doesn't contain it.
+    """
     first, _, rest = path.partition("/")
     if first == "bin":
         return None if rest == "aigprove" else f"{scripts}/{rest}"
@@ -50,7 +51,7 @@ def placed(path: str, scripts: str, info: str) -> str | None:
 
 
 def files(tree: Tree, known: Release, maintainer: str, licence: str, systems: str) -> Tree:
-    """Returns the files of the wheel, but for the list of their sums."""
+    """Returns the files of the wheel, except the list of their sums."""
     stem = f"{NAME}-{known.version}"
     info, scripts = f"{stem}.dist-info", f"{stem}.data/scripts"
     found: dict[str, File] = {}
@@ -67,7 +68,7 @@ def files(tree: Tree, known: Release, maintainer: str, licence: str, systems: st
 
 
 def record(found: Tree) -> str:
-    """Returns the list of the sums of files, as pip reads it."""
+    """Returns the list of the sums of files, in the format of pip."""
     rows = []
     for path, it in sorted(found.items()):
         if isinstance(it, File):
@@ -77,12 +78,12 @@ def record(found: Tree) -> str:
 
 
 def archive(found: Tree, known: Release, seconds: int) -> bytes:
-    """Returns the wheel of these files, all of the same time."""
+    """Returns the wheel with these files, which all get the same time."""
     path = f"{NAME}-{known.version}.dist-info/RECORD"
     whole: Tree = {**found, path: File((record(found) + f"{path},,\n").encode())}
     made, moment = io.BytesIO(), time.gmtime(max(seconds, 315532800))[:6]
     with zipfile.ZipFile(made, "w", zipfile.ZIP_DEFLATED, compresslevel=9) as file:
-        # What tells of the rest comes last.
+        # The files that describe the others come last.
         for name, it in sorted(whole.items(), key=lambda it: (".dist-info/" in it[0], it[0])):
             if isinstance(it, File):
                 member = zipfile.ZipInfo(name, moment)

@@ -1,11 +1,11 @@
 """The proved circuit library: functions from the bytes of AIGER files to answers, and circuits that
 stay in memory.
 
-What each call promises is proved, of the calls of `aig.h` that stand under it; this module is not.
-It loads the `libaig.so` that the environment's LIBAIG names, that beside it or in the folder above
-it, in the repository the one that was built last, or else the system's `libaig.so.1`. Calls can be
-made from several threads: other threads run meanwhile. `Circuit`, `Simulation` and
-`Unrolling` stand in `aig_circuits`.
+The functions of this module call those of `aig.h`, whose promises are proved. This module itself
+isn't proved. It loads the library that the environment variable LIBAIG names. If the variable isn't
+set, it loads `libaig.so` from its own folder, from the folder above it, or from the repository, or
+otherwise the system's `libaig.so.1`. Calls can be made from several threads, because other threads
+run during a call. `Circuit`, `Simulation` and `Unrolling` are defined in `aig_circuits`.
 
     >>> import aig
     >>> aig.text(b"aag 1 1 0 1 0\\n2\\n3\\n")
@@ -26,7 +26,7 @@ __all__ = ["Clauses", "Lasso", "Refused", "Shown", "query_numbers"]
 __all__ += aig_calls.__all__
 __all__ += aig_circuits.__all__
 
-# What is made elsewhere is this module's.
+# Names from the other modules appear as names of this module.
 for _name in __all__:
     if hasattr(globals()[_name], "__module__"):
         globals()[_name].__module__ = __name__

@@ -1,9 +1,10 @@
 """Circuits in memory, simulations of them, and circuits that are unrolled step by step, for the
 module aig.
 
-A circuit is a list of nodes: node 0 is false, and each other node is a leaf or the and of two edges
-to nodes before it. An edge is a literal: twice its node's number, and 1 more where it is inverted.
-Wherever a call takes an edge, it takes a `Signal`, too, on which `&`, `|`, `^` and `~` are defined:
+A circuit is a list of nodes. Node 0 is false, and each other node is a leaf or the and of two edges
+to nodes before it. An edge is a literal: twice the number of its node, plus 1 if the edge is
+inverted. Each call that takes an edge also takes a `Signal`, which has the operators `&`, `|`, `^`
+and `~`:
 
     >>> import aig
     >>> with aig.Circuit() as circuit:
@@ -12,10 +13,10 @@ Wherever a call takes an edge, it takes a `Signal`, too, on which `&`, `|`, `^` 
     ...     circuit.write_text()
     b'aag 3 2 0 1 1\\n2\\n4\\n6\\n6 5 2\\n'
 
-What each call does stands in `aig_circuit.h` at the call of the same name. A call that is refused
-raises `aig.Refused`, and leaves everything as it was. Lists are memory views that own their memory:
-numpy takes one without a copy, as in `numpy.asarray(circuit.cnf())`. A circuit may be used by
-several threads, of which one at a time makes a call on it.
+`aig_circuit.h` describes what each call does, at the call with the same name. A call that is
+refused raises `aig.Refused`, and changes nothing. Lists are memory views that own their memory.
+numpy accepts a memory view without a copy, as in `numpy.asarray(circuit.cnf())`. Several threads
+may use the same circuit, because only one of them at a time can make a call on it.
 """
 from __future__ import annotations
 
@@ -58,7 +59,7 @@ class Node(NamedTuple):
 
 
 class Latch(NamedTuple):
-    """A latch: its leaf's number, its next edge, and its initial edge, if it has one."""
+    """A latch: the number of its leaf, its next edge, and its initial edge, if it has one."""
 
     input: int
     next: int
@@ -66,7 +67,7 @@ class Latch(NamedTuple):
 
 
 class _Handle(ctypes.Structure):
-    """A handle, as C has it."""
+    """A handle, with the layout that it has in C."""
 
     _fields_ = [("held", ctypes.c_void_p)]
 
@@ -89,7 +90,8 @@ class _Latch(ctypes.Structure):
 
 
 def _size(number: SupportsIndex) -> int:
-    """Returns a number that isn't negative; one that C can't be given is as its greatest."""
+    """Returns a number that isn't negative. If it is too large for C, returns the largest number of
+    C."""
     given = operator.index(number)
     if given < 0:
         raise ValueError("a number is from 0 on")
@@ -105,19 +107,19 @@ def _edge(edge: Edge) -> int:
 
 
 def _edges(edges: Iterable[Edge]) -> tuple[Any, int]:
-    """Returns the words of a call for a list of edges."""
+    """Returns the arguments of a call for a list of edges."""
     literals = [_edge(edge) for edge in edges]
     return (ctypes.c_uint32 * max(1, len(literals)))(*literals), len(literals)
 
 
 def _sizes(numbers: Iterable[SupportsIndex]) -> tuple[Any, int]:
-    """Returns the words of a call for a list of nodes' numbers."""
+    """Returns the arguments of a call for a list of numbers of nodes."""
     sizes = [_size(number) for number in numbers]
     return (ctypes.c_size_t * max(1, len(sizes)))(*sizes), len(sizes)
 
 
 def _bytes(data: Iterable[int]) -> tuple[bytes, int]:
-    """Returns the words of a call for bytes or values."""
+    """Returns the arguments of a call for bytes or values."""
     whole = bytes(data)
     return whole, len(whole)
 
@@ -133,7 +135,7 @@ _FORMATS: Mapping[Any, str] = {
 
 
 def _view(kind: Any, items: Any, count: int) -> memoryview:
-    """Returns the first items of memory, of a type in C."""
+    """Returns the first items of a memory, which have a type of C."""
     view = memoryview(items).cast("B")[: count * ctypes.sizeof(kind)]
     return view.cast(_FORMATS.get(kind, "B"))
 
@@ -142,7 +144,7 @@ _Kind = TypeVar("_Kind", bound="_Held")
 
 
 class _Held:
-    """What owns a handle. One call at a time is made on it."""
+    """An owner of a handle. Only one call at a time is made on the handle."""
 
     _prefix = ""
 
@@ -152,7 +154,7 @@ class _Held:
         self._free = weakref.finalize(self, free, ctypes.byref(self._handle))
 
     def close(self) -> None:
-        """Frees what is held. Every further call is refused."""
+        """Frees the contents of the handle. Every further call is refused."""
         with self._lock:
             self._free()
 
@@ -168,26 +170,27 @@ class _Held:
         self.close()
 
     def _call(self, name: str, *words: Any) -> int:
-        """Returns the status of a call, by its name behind the kind of handle."""
+        """Makes a call, which is named without the prefix for the kind of handle, and returns its
+        status."""
         call = getattr(_library, f"aig_{self._prefix}_{name}")
         with self._lock:
             status: int = call(ctypes.byref(self._handle), *words)
         return status
 
     def _do(self, name: str, *words: Any) -> None:
-        """Makes a call, and raises where it is refused."""
+        """Makes a call, and raises an exception if it is refused."""
         status = self._call(name, *words)
         if status != DONE:
             raise _refusal(status)
 
     def _tell(self, kind: Any, name: str, *words: Any) -> Any:
-        """Returns the number that a call returns."""
+        """Makes a call, and returns its result, which is a number."""
         told = kind()
         self._do(name, *words, ctypes.byref(told))
         return told.value
 
     def _items(self, kind: Any, name: str, *words: Any, room: int = _ROOM) -> tuple[Any, int]:
-        """Returns the memory that a call fills, and how many items it has."""
+        """Returns the memory that a call fills, and the number of its items."""
         needed = ctypes.c_size_t(max(1, room))
         while True:
             out, count = (kind * needed.value)(), needed.value
@@ -198,13 +201,13 @@ class _Held:
                 raise _refusal(status)
 
     def _list(self, kind: Any, name: str, *words: Any, room: int = _ROOM) -> memoryview:
-        """Returns a list that a call gives."""
+        """Returns the list that a call returns."""
         return _view(kind, *self._items(kind, name, *words, room=room))
 
 
 def _pair(name: str, first: _Held, other: _Held, *words: Any, more: tuple[Any, ...] = ()) -> None:
-    """Makes a call on two handles, which are locked in one order, whichever comes first. `words`
-    stand between the handles, and `more` behind them."""
+    """Makes a call on two handles, which are always locked in the same order. `words` are the
+    arguments between the two handles, and `more` are the arguments after them."""
     call = getattr(_library, f"aig_{name}")
     locks = [held._lock for held in sorted((first, other), key=id)]
     with locks[0], locks[1]:
@@ -215,7 +218,7 @@ def _pair(name: str, first: _Held, other: _Held, *words: Any, more: tuple[Any, .
 
 
 class Signal:
-    """An edge of a circuit, on which operators are defined that add gates to the circuit.
+    """An edge of a circuit, with operators that add gates to the circuit.
 
     `&` is `new_and_node`, `|` is `new_or_node`, and `^` is the inverse of `new_eq_node`. The other
     operand may be any edge of the same circuit, or a `bool`.
@@ -228,12 +231,12 @@ class Signal:
 
     @property
     def node(self) -> int:
-        """The number of the edge's node."""
+        """Returns the number of the edge's node."""
         return self.literal // 2
 
     @property
     def is_inverted(self) -> bool:
-        """Whether the edge is inverted."""
+        """Returns whether the edge is inverted."""
         return self.literal % 2 == 1
 
     def __index__(self) -> int:
@@ -260,29 +263,30 @@ class Signal:
         return ~self._joined(self.circuit.new_eq_node, other)
 
     def equals(self, other: Edge) -> Signal:
-        """Returns whether two signals are equal."""
+        """Returns a signal that is true if and only if two signals are equal."""
         return self._joined(self.circuit.new_eq_node, other)
 
     def implies(self, other: Edge) -> Signal:
-        """Returns whether this signal implies the other one."""
+        """Returns a signal that is true if and only if this signal implies the other one."""
         return self._joined(self.circuit.new_imply_node, other)
 
     __rand__, __ror__, __rxor__ = __and__, __or__, __xor__
 
 
 class Circuit(_Held):
-    """A circuit in memory, which `close` or the end of a `with` block lets go."""
+    """A circuit in memory, which is freed by `close` or at the end of a `with` block."""
 
     _prefix = "circuit"
 
     def __init__(self) -> None:
-        """Makes the circuit that has only node 0."""
+        """Creates the circuit that has only node 0."""
         super().__init__()
         self._do("new")
 
     @classmethod
     def from_aiger(cls, file: bytes, limit: int = _MOST_VARIABLES) -> Circuit:
-        """Reads a file, text or binary, of at most `limit` variables, false among them."""
+        """Returns the circuit of a file, text or binary, with at most `limit` variables, including
+        the constant false."""
         made = cls()
         made._do("from_aiger", *_bytes(file), _size(limit))
         return made
@@ -298,11 +302,11 @@ class Circuit(_Held):
         return bytes(self._list(ctypes.c_uint8, "write_text"))
 
     def write_binary(self) -> bytes:
-        """Returns the binary form, which is that of the circuit after `reencode`."""
+        """Returns the binary form, with the numbers of nodes after `reencode`."""
         return bytes(self._list(ctypes.c_uint8, "write_binary"))
 
     def signal(self, edge: Edge) -> Signal:
-        """Returns an edge with operators."""
+        """Returns an edge as a signal, which has operators."""
         return Signal(self, _edge(edge))
 
     # ---- leaves and latches
@@ -312,30 +316,30 @@ class Circuit(_Held):
         return int(self._tell(ctypes.c_size_t, "new_leaf_node"))
 
     def new_input(self) -> int:
-        """Adds a leaf that is the last input, and returns its number."""
+        """Adds a leaf as the last input, and returns its number."""
         return int(self._tell(ctypes.c_size_t, "new_input"))
 
     def add_input(self, node: int) -> None:
-        """Makes a free leaf the last input."""
+        """Adds a free leaf of the circuit to the inputs, as the last input."""
         self._do("add_input", _size(node))
 
     def new_latch(self, following: Edge, init: Edge | None = None) -> int:
-        """Adds a leaf with the last latch, which has the next edge `following`, and returns the
-        leaf's number."""
+        """Adds a leaf and a latch with this leaf and the next edge `following`, and returns the
+        number of the leaf."""
         words = _edge(following), init is not None, 0 if init is None else _edge(init)
         return int(self._tell(ctypes.c_size_t, "new_latch", *words))
 
     def add_latch(self, node: int, following: Edge, init: Edge | None = None) -> None:
-        """Makes a free leaf the leaf of the last latch, which has the next edge `following`."""
+        """Adds a latch with the next edge `following`, whose leaf is a free leaf of the circuit."""
         words = _edge(following), init is not None, 0 if init is None else _edge(init)
         self._do("add_latch", _size(node), *words)
 
     def set_next(self, i: int, following: Edge) -> None:
-        """Replaces the next edge of latch `i`, from 0 on."""
+        """Replaces the next edge of latch `i`, counted from 0."""
         self._do("set_next", _size(i), _edge(following))
 
     def set_init(self, i: int, init: Edge | None) -> None:
-        """Replaces the initial edge of latch `i`, from 0 on, or drops it."""
+        """Replaces the initial edge of latch `i`, counted from 0, or removes it."""
         self._do("set_init", _size(i), init is not None, 0 if init is None else _edge(init))
 
     # ---- gates: each call returns an edge
@@ -344,47 +348,52 @@ class Circuit(_Held):
         return int(self._tell(ctypes.c_uint32, name, *words))
 
     def trivial_new_and_node(self, a: Edge, b: Edge) -> int:
-        """Adds a gate, the and of two edges."""
+        """Adds a gate for the and of two edges."""
         return self._gate("trivial_new_and_node", _edge(a), _edge(b))
 
     def new_and_node(self, a: Edge, b: Edge) -> int:
-        """Returns the and of two edges, without a gate if one is constant or both have one node."""
+        """Returns the and of two edges. Adds no gate if one is constant or both have the same node.
+        """
         return self._gate("new_and_node", _edge(a), _edge(b))
 
     def trivial_new_or_node(self, a: Edge, b: Edge) -> int:
-        """Adds a gate for the or of two edges: the inverse of the gate of their inverses."""
+        """Adds a gate for the or of two edges, and returns the inverse of this gate."""
         return self._gate("trivial_new_or_node", _edge(a), _edge(b))
 
     def new_or_node(self, a: Edge, b: Edge) -> int:
-        """Returns the or of two edges: the inverse of `new_and_node` of their inverses."""
+        """Returns the or of two edges, which is the inverse of `new_and_node` of their inverses."""
         return self._gate("new_or_node", _edge(a), _edge(b))
 
     def new_imply_node(self, a: Edge, b: Edge) -> int:
-        """Returns an edge that is true where the first edge implies the second."""
+        """Returns an edge that is true if and only if the first edge implies the second."""
         return self._gate("new_imply_node", _edge(a), _edge(b))
 
     def new_eq_node(self, a: Edge, b: Edge) -> int:
-        """Returns an edge that is true where two edges are equal."""
+        """Returns an edge that is true if and only if two edges are equal."""
         return self._gate("new_eq_node", _edge(a), _edge(b))
 
     def trivial_new_ands_node(self, edges: Iterable[Edge]) -> int:
-        """Returns the and of edges, with a gate for each after the first. Of none it is true."""
+        """Returns the and of edges, with a gate for each edge after the first. If there are no
+        edges, the result is true."""
         return self._gate("trivial_new_ands_node", *_edges(edges))
 
     def new_ands_node(self, edges: Iterable[Edge]) -> int:
-        """Returns the and of edges, joined by `new_and_node`. Of none it is true."""
+        """Returns the and of edges, combined by `new_and_node`. If there are no edges, the result
+        is true."""
         return self._gate("new_ands_node", *_edges(edges))
 
     def trivial_new_ors_node(self, edges: Iterable[Edge]) -> int:
-        """Returns the inverse of `trivial_new_ands_node` of the inverses. Of none it is false."""
+        """Returns the or of edges, which is the inverse of `trivial_new_ands_node` of their
+        inverses. If there are no edges, the result is false."""
         return self._gate("trivial_new_ors_node", *_edges(edges))
 
     def new_ors_node(self, edges: Iterable[Edge]) -> int:
-        """Returns the inverse of `new_ands_node` of the inverses. Of none it is false."""
+        """Returns the or of edges, which is the inverse of `new_ands_node` of their inverses. If
+        there are no edges, the result is false."""
         return self._gate("new_ors_node", *_edges(edges))
 
     def set_node(self, node: int, a: Edge, b: Edge) -> None:
-        """Gives a gate other operands."""
+        """Replaces the operands of a gate."""
         self._do("set_node", _size(node), _edge(a), _edge(b))
 
     # ---- properties: a list is one of OUTPUTS, BADS, CONSTRAINTS and FAIRNESS
@@ -394,7 +403,7 @@ class Circuit(_Held):
         self._do("push_edge", _edge(edges), _edge(edge))
 
     def set_edge(self, edges: int, i: int, edge: Edge) -> None:
-        """Replaces entry `i` of a list, from 0 on."""
+        """Replaces entry `i` of a list, counted from 0."""
         self._do("set_edge", _edge(edges), _size(i), _edge(edge))
 
     def set_edges(self, edges: int, given: Iterable[Edge]) -> None:
@@ -411,22 +420,22 @@ class Circuit(_Held):
 
     @property
     def outputs(self) -> memoryview:
-        """The outputs, in order."""
+        """Returns the outputs, in order."""
         return self.edges(OUTPUTS)
 
     @property
     def bads(self) -> memoryview:
-        """The bad state properties, in order."""
+        """Returns the bad state properties, in order."""
         return self.edges(BADS)
 
     @property
     def constraints(self) -> memoryview:
-        """The invariant constraints, in order."""
+        """Returns the invariant constraints, in order."""
         return self.edges(CONSTRAINTS)
 
     @property
     def fairness(self) -> memoryview:
-        """The fairness constraints, in order."""
+        """Returns the fairness constraints, in order."""
         return self.edges(FAIRNESS)
 
     def push_justice(self, edges: Iterable[Edge]) -> None:
@@ -438,17 +447,17 @@ class Circuit(_Held):
         self._do("clear_justice")
 
     def num_justice(self) -> int:
-        """Returns how many justice properties there are."""
+        """Returns the number of justice properties."""
         return int(self._tell(ctypes.c_size_t, "num_justice"))
 
     def justice(self, i: int) -> memoryview:
-        """Returns the edges of justice property `i`, from 0 on."""
+        """Returns the edges of justice property `i`, counted from 0."""
         return self._list(ctypes.c_uint32, "justice", _size(i))
 
     # ---- names
 
     def get_symbol(self, node: int) -> str | None:
-        """Returns the name of a node, if it has one."""
+        """Returns the name of a node, or None if it has none."""
         words = (ctypes.c_uint8, "get_symbol", _size(node))
         try:
             return bytes(self._list(*words)).decode()
@@ -458,12 +467,12 @@ class Circuit(_Held):
             raise
 
     def set_symbol(self, node: int, name: str | bytes) -> None:
-        """Names a node, in place of an older name."""
+        """Sets the name of a node, and replaces an older name."""
         data = name.encode() if isinstance(name, str) else name
         self._do("set_symbol", _size(node), *_bytes(data))
 
     def symbols(self) -> memoryview:
-        """Returns the numbers of the nodes that have names, rising."""
+        """Returns the numbers of the nodes that have names, in increasing order."""
         return self._list(ctypes.c_size_t, "symbols")
 
     # ---- what a circuit has
@@ -472,11 +481,11 @@ class Circuit(_Held):
         return self.num_nodes()
 
     def num_nodes(self) -> int:
-        """Returns how many nodes there are, node 0 among them."""
+        """Returns the number of nodes, including node 0."""
         return int(self._tell(ctypes.c_size_t, "num_nodes"))
 
     def nodes_buffer(self) -> memoryview:
-        """Returns the nodes as a table of three numbers each: their kinds and their operands."""
+        """Returns the nodes as a table with three columns: the kind and the two operands."""
         items, count = self._items(_Node, "nodes", room=self.num_nodes())
         return _view(_Node, items, count).cast("I", shape=[count, 3])
 
@@ -486,7 +495,8 @@ class Circuit(_Held):
         return map(Node._make, struct.iter_unpack("@III", _view(_Node, items, count)))
 
     def latchs_buffer(self) -> memoryview:
-        """Returns the latches as structures of C, whose fields are named in the view's format."""
+        """Returns the latches as C structures. The format of the view has the names of their
+        fields."""
         items, count = self._items(_Latch, "latchs")
         return memoryview((_Latch * count).from_buffer(items))
 
@@ -498,38 +508,39 @@ class Circuit(_Held):
 
     @property
     def inputs(self) -> memoryview:
-        """The numbers of the inputs, in order."""
+        """Returns the numbers of the inputs, in order."""
         return self._list(ctypes.c_size_t, "inputs")
 
     def ands(self) -> memoryview:
-        """Returns the numbers of the gates, rising."""
+        """Returns the numbers of the gates, in increasing order."""
         return self._list(ctypes.c_size_t, "ands")
 
     def _asks(self, name: str, *words: Any) -> bool:
         return bool(self._tell(ctypes.c_bool, name, *words))
 
     def has_node(self, node: int) -> bool:
-        """Returns whether there is a node of this number."""
+        """Returns whether a node with this number exists."""
         return self._asks("has_node", _size(node))
 
     def has_edge(self, edge: Edge) -> bool:
-        """Returns whether the node of an edge is there."""
+        """Returns whether the node of an edge exists."""
         return self._asks("has_edge", _edge(edge))
 
     def is_free_leaf(self, node: int) -> bool:
-        """Returns whether a node is there and is neither an input nor a latch's leaf nor a gate."""
+        """Returns whether a node exists and is a free leaf, that is, neither an input nor the leaf
+        of a latch."""
         return self._asks("is_free_leaf", _size(node))
 
     def is_closed(self) -> bool:
-        """Returns whether no leaf is free."""
+        """Returns whether the circuit has no free leaves."""
         return self._asks("is_closed")
 
     def fits_lits(self) -> bool:
-        """Returns whether there are at most 2^31 nodes."""
+        """Returns whether the circuit has at most 2^31 nodes."""
         return self._asks("fits_lits")
 
     def admits(self, node: int, a: Edge, b: Edge) -> bool:
-        """Returns whether `set_node` takes this."""
+        """Returns whether `set_node` accepts these arguments."""
         return self._asks("admits", _size(node), _edge(a), _edge(b))
 
     def begins_with(self, source: Circuit) -> bool:
@@ -544,19 +555,21 @@ class Circuit(_Held):
     # ---- cones: each call returns for each node whether it is in the cone
 
     def fanin_logic_cone(self, edges: Iterable[Edge]) -> memoryview:
-        """Returns what edges reach along operands, their own nodes among it."""
+        """Returns the nodes of the given edges, and all nodes that can be reached from them along
+        operands."""
         return self._list(
             ctypes.c_bool, "fanin_logic_cone", *_edges(edges), room=self.num_nodes()
         )
 
     def coi(self, roots: Iterable[int]) -> memoryview:
-        """Returns node 0, these nodes, and what they reach along operands and next edges."""
+        """Returns node 0, the given nodes, and all nodes that can be reached from them along
+        operands and next edges."""
         return self._list(ctypes.c_bool, "coi", *_sizes(roots), room=self.num_nodes())
 
     # ---- transforms: each puts another circuit in place of the circuit
 
     def coi_refine(self) -> None:
-        """Cuts the circuit to its cone of influence."""
+        """Replaces the circuit by its cone of influence."""
         self._do("coi_refine")
 
     def merge(self, other: Circuit) -> None:
@@ -568,7 +581,7 @@ class Circuit(_Held):
         self._do("aig_move")
 
     def compress_property(self) -> None:
-        """Replaces the bad edges by one, their or."""
+        """Replaces the bad edges by one bad edge, which is their or."""
         self._do("compress_property")
 
     def gate_init_to_constraint(self) -> None:
@@ -576,11 +589,11 @@ class Circuit(_Held):
         self._do("gate_init_to_constraint")
 
     def reencode(self) -> None:
-        """Numbers inputs first, then the leaves of latches, then gates."""
+        """Renumbers the nodes: inputs first, then the leaves of latches, then gates."""
         self._do("reencode")
 
     def unroll(self, source: Circuit) -> None:
-        """Adds one step of another circuit, of which this one holds the steps so far."""
+        """Adds one step of another circuit to this circuit, which contains the previous steps."""
         _pair("circuit_unroll", self, self.clone() if source is self else source)
 
     def unroll_to(self, k: int) -> None:
@@ -588,22 +601,22 @@ class Circuit(_Held):
         self._do("unroll_to", _size(k))
 
     def strash(self) -> None:
-        """Lets gates share one node where their trees are equal (structural hashing)."""
+        """Merges all gates whose trees are equal (structural hashing)."""
         self._do("strash")
 
     # ---- clauses and values
 
     def cnf(self, optimize: bool = True) -> memoryview:
-        """Returns the clauses as DIMACS numbers, with a 0 after each."""
+        """Returns the clauses as DIMACS numbers, with a 0 after each clause."""
         return self._list(ctypes.c_int32, "cnf", optimize)
 
     def ternary_simulate(self, inputs: Iterable[int], state: Iterable[int]) -> bytes:
-        """Returns the value of each node where inputs and latches have these values."""
+        """Returns the value of each node for the given values of inputs and latches."""
         words = (*_bytes(inputs), *_bytes(state))
         return bytes(self._list(ctypes.c_uint8, "ternary_simulate", *words, room=self.num_nodes()))
 
     def simulate(self, state: Iterable[int], inputs: Iterable[int]) -> tuple[bytes, bytes]:
-        """Values one step, and returns the value of each node and the state that follows."""
+        """Simulates one step, and returns the value of each node and the next state."""
         given, count = _bytes(state)
         after = (ctypes.c_uint8 * max(1, count)).from_buffer_copy(given or b"\0")
         words = (after, count, *_bytes(inputs))
@@ -612,8 +625,8 @@ class Circuit(_Held):
 
 
 class Simulation(_Held):
-    """A simulation in three values of a copy of a circuit, which begins in a state: a value for
-    each latch, in order."""
+    """A simulation with three values, of a copy of a circuit. It begins in a given state, which has
+    a value for each latch, in order."""
 
     _prefix = "simulation"
 
@@ -629,11 +642,12 @@ class Simulation(_Held):
         return made
 
     def simulate(self, inputs: Iterable[int]) -> None:
-        """Values one step with these inputs, and moves the state to that which follows."""
+        """Simulates one step with the given inputs, and replaces the state by the next state."""
         self._do("simulate", *_bytes(inputs))
 
     def has_value(self, edge: Edge) -> bool:
-        """Returns whether a step was valued and the node of an edge is there."""
+        """Returns whether an edge has a value. This is the case if a step was simulated and the
+        node of the edge exists."""
         return bool(self._tell(ctypes.c_bool, "has_value", _edge(edge)))
 
     def value(self, edge: Edge) -> int:
@@ -645,17 +659,17 @@ class Simulation(_Held):
         return bytes(self._list(ctypes.c_uint8, "state"))
 
     def simulate_all(self, inputs: Iterable[int], steps: int, edge: Edge) -> bytes:
-        """Values steps one after another, and returns the value of an edge in each. `inputs` has
-        the values of each step's inputs in turn."""
+        """Simulates several steps, and returns the value of an edge in each step. `inputs` contains
+        the values of the inputs for each step, one step after the other."""
         words = (*_bytes(inputs), _size(steps), _edge(edge))
         return bytes(self._list(ctypes.c_uint8, "simulate_all", *words, room=min(steps, _ROOM)))
 
 
 class Unrolling(_Held):
-    """A copy of a circuit that is unrolled step by step, for solvers that go on from step to step.
+    """A copy of a circuit that is unrolled step by step, for incremental solvers.
 
-    Steps are counted from 0, the circuit itself. Clauses are DIMACS numbers with a 0 after each:
-    node n has the variable n + 1.
+    Steps are counted from 0, and step 0 is the circuit itself. Clauses are DIMACS numbers with a 0
+    after each clause. Node n has the variable n + 1.
     """
 
     _prefix = "unrolling"
@@ -665,19 +679,21 @@ class Unrolling(_Held):
         _pair("unrolling_new", circuit, self)
 
     def add_step(self) -> None:
-        """Adds a step. The clauses of earlier ones stay what they are."""
+        """Adds a step. The clauses of earlier steps don't change."""
         self._do("add_step")
 
     def steps(self) -> int:
-        """Returns how many steps were added."""
+        """Returns the number of steps that were added."""
         return int(self._tell(ctypes.c_size_t, "steps"))
 
     def step_clauses(self, step: int) -> memoryview:
-        """Returns the clauses of a step: of its nodes, and that its constraints hold."""
+        """Returns the clauses of a step: those of its nodes, and those which state that its
+        constraints are true."""
         return self._list(ctypes.c_int32, "step_clauses", _size(step))
 
     def initial_clauses(self) -> memoryview:
-        """Returns the clauses that each latch with an initial edge has its value at step 0."""
+        """Returns clauses which state that each latch with an initial edge has the value of this
+        edge at step 0."""
         return self._list(ctypes.c_int32, "initial_clauses")
 
     def bads(self, step: int) -> memoryview:
@@ -690,12 +706,13 @@ class Unrolling(_Held):
 
     def check_refuted(self, step: int, proof: bytes) -> None:
         """Returns only if no run from an initial state, under the constraints, reaches a bad state
-        at a step. `proof` is of the clauses of the steps up to it, in order, those of initial
-        values, and one clause of its bad edges."""
+        at the given step. `proof` has to refute the clauses of the steps up to this step, in order,
+        those of the initial values, and one clause of the bad edges of the step."""
         self._do("check_refuted", _size(step), *_bytes(proof))
 
     def check_inductive(self, k: int, proof: bytes) -> None:
-        """Returns only if no such run ever reaches a bad state, if none does at the steps 0 to `k`.
-        `proof` is of the clauses of the steps 0 to `k` + 1, in order, those that each bad edge of
-        the steps 0 to `k` is false, and one clause of the bad edges of step `k` + 1."""
+        """Returns only if no run of `k` + 2 steps, from any state and under the constraints, is bad
+        only at its last step. `proof` has to refute the clauses of the steps 0 to `k` + 1, in
+        order, those which state that each bad edge of the steps 0 to `k` is false, and one clause
+        of the bad edges of step `k` + 1."""
         self._do("check_inductive", _size(k), *_bytes(proof))

@@ -1,9 +1,9 @@
 """Checks that each example of a docstring is run by a test.
 
 An example is a block between lines of three backquotes in the docstring of an item, below `#
-Examples`. Its lines have to stand one after another in the body of one function of the kind
-#[test], in any crate. The test may have further lines around them, as those that give `rt` and
-`alloc`.
+Examples`. The body of a function with #[test], in any crate, has to contain the lines of the
+example without interruption. The test may have other lines before and after them, such as those
+that define `rt` and `alloc`.
 """
 import re
 import textwrap
@@ -17,8 +17,8 @@ FENCE = re.compile(r"^```.*\n", re.MULTILINE)
 
 
 def examples(text):
-    """The place of each docstring with examples, and its blocks; None in their place where it has
-    none or one isn't ended."""
+    """Yields the line of each docstring with examples, and its blocks. If it has no block, or a
+    block isn't closed, yields None instead of the blocks."""
     for found in DOCSTRING.finditer(text):
         docstring = re.sub(r"^ */// ?", "", found.group(), flags=re.MULTILINE)
         before, heading, after = docstring.partition(HEADING)
@@ -29,13 +29,13 @@ def examples(text):
 
 
 def sources():
-    """The files of code, by their paths from the top."""
+    """Returns the texts of the files of code, by their paths relative to the repository."""
     paths = (path.relative_to(TOP) for path in sorted(TOP.glob("crates/**/*.rt")))
     return {path: (TOP / path).read_text() for path in paths if "out" not in path.parts}
 
 
 def test_examples(checks):
-    """Each example of a docstring stands in a test."""
+    """Each example of a docstring is part of a test."""
     texts = sources()
     bodies = [
         "\n" + textwrap.dedent(body) for text in texts.values() for body in TEST.findall(text)

@@ -1,4 +1,4 @@
-"""Holds what is generated in the pages: the drawing of the crates, and the table of wrong
+"""Checks the generated parts of the pages: the drawing of the crates, and the table of wrong
 bodies."""
 import harness
 import wrong_bodies
@@ -6,13 +6,13 @@ from harness import TOP
 
 
 def test_drawing():
-    """docs/house.svg is what docs/house.py draws."""
+    """The file docs/house.svg is the same as the drawing of docs/house.py."""
     status, printed, said = harness.run([TOP / "docs" / "house.py", "--check"])
     assert status == 0, (printed + said).decode()
 
 
 def test_wrong_bodies():
-    """docs/PROOFS.md counts the wrong bodies as they are; `wrong_bodies.py --write` writes the
-    table."""
+    """The table of wrong bodies in docs/PROOFS.md has the current counts. `wrong_bodies.py --write`
+    writes the table."""
     _, shown, _ = wrong_bodies.parts(wrong_bodies.PAGE)
     assert shown == wrong_bodies.table()

@@ -1,14 +1,15 @@
-"""Holds the links, the paths and the Rust of README.md and docs/*.md against the repository.
+"""Compares the links, the paths and the Rust code in README.md and docs/*.md with the repository.
 
 Each relative link has to lead to a file or folder of the repository, and its anchor to a heading of
-that page, by the rule of GitHub. A name in the text of a link to a file of code or definitions has
-to stand in that file. A word of a code span has to lead to a file or folder where it is a path from
-the top, from crates/, or from specs/, src/ or proofs/ of a crate; so has the name of a file of code
-alone, in a crate that the line names. A part in capitals, or with a star, stands for any name, and
-what follows it isn't looked at. A code span that is a name in parts, as those of crates, functions
-and types, has to be the name of a crate or stand in a file of code. Each block of the kind `rust`
-has to stand, line by line, in a file of crates/ or examples/. And no file of the repository may
-name another host than that of the AIGER report and that of the names of XML.
+that page, by the rule of GitHub. If a link leads to a file of code or definitions, the file has to
+contain the names in the text of the link. If a word of a code span is a path relative to the
+repository, to crates/, or to specs/, src/ or proofs/ of a crate, it has to lead to a file or
+folder. If it is only the name of a file of code, the file has to exist in a crate that the line
+names. A part of a path in capitals, or with a star, stands for any name, and the parts after it
+aren't checked. If a code span looks like the name of a crate, a function or a type, it has to be
+the name of a crate or occur in a file of code. A file of crates/ or examples/ has to contain each
+block with the language `rust`. No file of the repository may contain the name of a host, except
+that of the AIGER report and that of XML namespaces.
 """
 import collections
 import re
@@ -26,17 +27,17 @@ IN_PARTS = re.compile(r"[a-z]+_[a-z\d_]+|AIG_\w+|[A-Z][a-z]+[A-Z]\w*")
 OF_CRATES = ("specs", "src", "proofs", "must-fail")
 LINK = re.compile(r"\[([^\]]*)\]\(([^)\s]*)\)")
 CODE = (".rt", ".antt")
-# What has the names of code spans.
+# The kinds of files in which names of code spans may occur.
 SOURCES = (".rt", ".antt", ".py", ".h", ".v", ".tsv")
-# Files that a reader makes.
+# Files that a reader creates while following a page.
 EXAMPLES = ("check.sh",)
-# A host in an address, and those that files may name.
+# A host in an address, and the hosts that files may name.
 HOST, HOSTS = re.compile(r"\w+://([\w.-]+\.[a-z]+)"), ("fmv.jku.at", "www.w3.org")
 
 
 def anchors(text):
-    """The anchors of a page: its headings in small letters, with hyphens for spaces and without
-    other signs."""
+    """Returns the anchors of a page: its headings in lower case, with hyphens instead of spaces and
+    without other punctuation."""
     found, times = set(), {}
     for heading in re.findall(r"^#+ +(.*?) *$", BLOCK.sub("", text), re.MULTILINE):
         name = re.sub(r"[^\w\- ]", "", LINK.sub(r"\1", heading).lower()).replace(" ", "-")
@@ -46,7 +47,7 @@ def anchors(text):
 
 
 def link_faults(page, text):
-    """The links of a page that lead nowhere."""
+    """Yields an error for each link of a page that leads nowhere."""
     for shown, target in LINK.findall(BLOCK.sub("", text)):
         if "://" in target:
             continue
@@ -76,8 +77,8 @@ class Files:
                     self.words |= set(re.findall(r"\w+", path.read_text()))
 
     def leads(self, parts, crates):
-        """Whether a path leads to a file or folder; of one within a crate, in one of these crates,
-        or in any where there is none."""
+        """Returns whether a path leads to a file or folder. A path within a crate has to exist in
+        one of the given crates, or in any crate if none is given."""
         if parts[0] in self.top:
             return (TOP / "/".join(parts)).exists()
         if parts[0] in self.crates:
@@ -85,8 +86,8 @@ class Files:
         return any((crate / "/".join(parts)).exists() for crate in crates or self.crates.values())
 
     def is_there(self, name, crates):
-        """Whether there is a file of this name, and if it is one of code in these crates, where
-        there are some."""
+        """Returns whether a file with this name exists. If it is a file of code and crates are
+        given, it has to be in one of these crates."""
         is_code = FILE.fullmatch(name)[1] in ("rt", "antt")
         places = self.named.get(name, ())
         return any(
@@ -95,14 +96,15 @@ class Files:
         )
 
     def name_faults(self, text):
-        """The names in code spans that no source has; of crates those that are no crate."""
+        """Yields an error for each name in a code span that neither is a crate nor occurs in a
+        source file."""
         for span in filter(NAME.fullmatch, SPAN.findall(BLOCK.sub("", text))):
             for name in filter(IN_PARTS.fullmatch, span.split("::")):
                 if name not in self.words:
                     yield f"no source has this name: {span}"
 
     def faults(self, text):
-        """The paths and names of files in code spans that lead nowhere."""
+        """Yields an error for each path or file name in a code span that doesn't exist."""
         for line in BLOCK.sub("", text).split("\n"):
             crates = []
             for word in (word.strip("/,") for span in SPAN.findall(line) for word in span.split()):
@@ -120,16 +122,16 @@ class Files:
 
 
 def rust_faults(text, sources):
-    """The blocks of Rust that stand in no source."""
+    """Yields an error for each block of Rust that no source file contains."""
     for kind, block in BLOCK.findall(text):
         if kind == "rust" and not any(block in source for source in sources):
             yield f"stands in no file of crates/ or examples/: {block.splitlines()[0]}"
 
 
 def host_faults():
-    """The hosts that files of the repository name and may not, each with its file.
+    """Yields an error for each host that a file of the repository names, but must not name.
 
-    Licences of others are left out, which lie in prebuilt/."""
+    Licences of other projects, which are in prebuilt/, are left out."""
     words = ["git", "grep", "-I", "-E", r"[a-z]+://[a-z]", "--", ".", ":!prebuilt/licences"]
     listed = harness.output(words, cwd=TOP)
     for path, text in (line.split(":", 1) for line in listed.splitlines()):
@@ -149,7 +151,7 @@ def files():
 
 @pytest.fixture(scope="module")
 def sources():
-    """The texts in which blocks of Rust have to stand."""
+    """Returns the texts of the source files that may contain blocks of Rust."""
     return [
         path.read_text()
         for pattern in ["crates/*/src/**/*.rt", "examples/*/*.rt.txt", "examples/*.rs"]
@@ -159,7 +161,7 @@ def sources():
 
 @pytest.mark.parametrize("page", PAGES, ids=[str(page.relative_to(TOP)) for page in PAGES])
 def test_page(checks, files, sources, page):
-    """The links, paths, names and Rust of a page lead somewhere."""
+    """The links, paths, names and blocks of Rust in a page exist in the repository."""
     text = page.read_text()
     faults = [
         *link_faults(page, text), *files.faults(text), *files.name_faults(text),
@@ -170,6 +172,6 @@ def test_page(checks, files, sources, page):
 
 
 def test_hosts():
-    """No file names another host than those that it may."""
+    """No file contains the name of a host that isn't allowed."""
     faults = list(host_faults())
     assert not faults, "\n".join(faults)

@@ -1,14 +1,14 @@
-"""Compares the reference with what it describes: usage texts, help texts, messages, files and JSON.
+"""Compares the reference with the usage texts, help texts, messages, files and JSON that it
+describes.
 
-In docs/reference each line of a block `usage` has to be one of the usage text of its program, and
-each of that has to stand in such a block. The tables that docs/generate.py makes have to be as it
-makes them, and the man pages have to have the same commands. Each message of messages.md has to be
-a line of tests/lines.tsv. In docs/FORMAT.md an item that begins with bytes in a code span is a
-file, and behind it stands what `aigtool text` prints: the same bytes, other ones, or the text of a
-refusal.
+In docs/reference, the lines of all blocks `usage` of a program have to be the lines of its usage
+text. The tables that docs/generate.py writes have to be up to date, and the man pages have to
+contain the same commands. Each message in messages.md has to be a line of tests/lines.tsv. In
+docs/FORMAT.md, an item that begins with bytes in a code span is a file, followed by the output of
+`aigtool text`: the same bytes, other bytes, or the text of a refusal.
 
-Programs are looked for in crates/NAME/out, where `rt run` in crates/NAME builds them, then where
-the system looks.
+Programs are searched for in crates/NAME/out, where `rt run` in crates/NAME builds them, and then in
+the PATH.
 """
 from __future__ import annotations
 
@@ -25,7 +25,7 @@ from harness import TOP, Checks, spelled
 REFERENCE = TOP / "docs" / "reference"
 USAGE = re.compile(r"^```usage\n(.*?)^```$", re.DOTALL | re.MULTILINE)
 ROW = re.compile(r"^- `(a[ai]g [^`]*)`: (the same|`[^`]*`), ", re.MULTILINE)
-# A row of the table beside other tools: a file, and whether aigtool, ABC and yosys accept it.
+# A row of the table about other tools: a file, and whether aigtool, ABC and yosys accept it.
 DIALECT = re.compile(
     r"^\| `(a[ai]g [^`]*)` \| [^|]* \| (yes|no) \| (yes|no) \| (yes|no) \|$", re.MULTILINE
 )
@@ -50,7 +50,7 @@ def shown_usage(program: str) -> list[str]:
 
 
 def printed_usage(program: str) -> list[str]:
-    """Returns the commands of a program's usage text, without the options in front of all of them.
+    """Returns the commands of a program's usage text, without the options that all commands have.
     """
     text = harness.USAGE[program].decode().strip().removeprefix(f"usage: {program} ")
     text = re.sub(r"^\[--limit N\] (\[--property .*?\]\] )?", "", text)
@@ -59,13 +59,13 @@ def printed_usage(program: str) -> list[str]:
 
 @pytest.mark.parametrize("program", harness.USAGE)
 def test_usage(checks: Checks, program: str) -> None:
-    """The page of a program has its commands, each once."""
+    """The page of a program contains each of its commands once."""
     checks.wants(program, sorted(printed_usage(program)), sorted(shown_usage(program)))
 
 
 @pytest.mark.parametrize("program", harness.USAGE)
 def test_sections(checks: Checks, program: str) -> None:
-    """Each command has a section of its name, which has an example or leads to a page that has one.
+    """Each command has a section with its name, which has an example or links to a page with one.
     """
     text = (REFERENCE / f"{program}.md").read_text()
     parts = dict(re.findall(r"^## (\S+)\n(.*?)(?=^## |\Z)", text, re.DOTALL | re.MULTILINE))
@@ -78,18 +78,18 @@ def test_sections(checks: Checks, program: str) -> None:
 
 
 def plain_usage(line: str) -> str:
-    """Returns a line of a usage text without options in front of the command."""
+    """Returns a line of a usage text without the options before the command."""
     return re.sub(r"\[--\S+ \S+\] ", "", line)
 
 
 def test_generated() -> None:
-    """The tables about options, engines and statuses are those of aigprove's help text."""
+    """The tables about options, engines and statuses are the same as in aigprove's help text."""
     status, printed, said = harness.run([TOP / "docs" / "generate.py", "--check"])
     assert status == 0, (printed + said).decode()
 
 
 def test_man_pages(checks: Checks, folder: pathlib.Path) -> None:
-    """The man page of a program has each line of its usage text."""
+    """The man page of a program contains each line of its usage text."""
     harness.output([str(TOP / "docs" / "man.py"), str(folder)])
     for program in harness.USAGE:
         text = (folder / f"{program}.1").read_text().replace("\\-", "-")
@@ -100,7 +100,8 @@ def test_man_pages(checks: Checks, folder: pathlib.Path) -> None:
 
 
 def test_messages(checks: Checks) -> None:
-    """Each message of the page is one that a program prints; `..` stands for what varies."""
+    """Each message on the page is a message that a program prints. `..` stands for the parts that
+    vary."""
     texts = "\n".join(lines.VARYING.sub("", row.line) for row in lines.rows())
     for cell in re.findall(
         r"^\| (`[^|]*`) \|", (REFERENCE / "messages.md").read_text(), re.MULTILINE
@@ -112,8 +113,8 @@ def test_messages(checks: Checks) -> None:
 
 
 def schema_faults(value: Any, schema: dict[str, Any], place: str = "$") -> list[str]:
-    """Returns the places where a value breaks a JSON Schema. Only the keywords that
-    table.schema.json uses are known."""
+    """Returns an error for each place where a value violates a JSON Schema. The function supports
+    only the keywords that table.schema.json uses."""
     kinds = schema.get("type", [])
     types = [
         kind for name in ([kinds] if isinstance(kinds, str) else kinds) for kind in TYPES[name]
@@ -146,7 +147,7 @@ SCHEMA = json.loads((REFERENCE / "table.schema.json").read_text())
 
 
 def test_shown_json(checks: Checks) -> None:
-    """The JSON of the page is as the schema says, and its table of fields has the same fields."""
+    """The JSON of the page matches the schema, and the table on the page has the same fields."""
     text = (REFERENCE / "table.md").read_text()
     block = re.search(r"^```json\n(.*?)^```$", text, re.DOTALL | re.MULTILINE)
     assert block
@@ -174,7 +175,7 @@ def test_shown_json(checks: Checks) -> None:
     ],
 )
 def test_json(checks: Checks, folder: pathlib.Path, words: list[str], file: str) -> None:
-    """What aigprove writes is as the schema says."""
+    """The JSON that aigprove writes matches the schema."""
     harness.run([harness.PROVE, "--each", *words, "--json", folder / "table.json", TOP / file])
     checks.wants(file, [], schema_faults(json.loads((folder / "table.json").read_text()), SCHEMA))
 
@@ -190,7 +191,7 @@ def test_json(checks: Checks, folder: pathlib.Path, words: list[str], file: str)
     ],
 )
 def test_schema(checks: Checks, fault: dict[str, Any]) -> None:
-    """The schema refuses another value."""
+    """The schema refuses a value with an error."""
     block = re.search(
         r"^```json\n(.*?)^```$", (REFERENCE / "table.md").read_text(), re.DOTALL | re.MULTILINE
     )
@@ -199,14 +200,14 @@ def test_schema(checks: Checks, fault: dict[str, Any]) -> None:
 
 
 def printed_by(told: str, given: str) -> bytes:
-    """Returns the bytes that an item names: the given file, another one, or a refusal."""
+    """Returns the output that an item describes: the given file, another file, or a refusal."""
     span = given if told == "the same" else told.strip("`")
     return spelled(span) if span.startswith(KINDS) else f"aigtool: {span}\n".encode()
 
 
 @pytest.mark.parametrize("data, told", ROW.findall((TOP / "docs" / "FORMAT.md").read_text()))
 def test_file(folder: pathlib.Path, data: str, told: str) -> None:
-    """A file of a list is accepted or refused as its item says."""
+    """A file of a list is accepted or refused as its item describes."""
     (folder / "row").write_bytes(spelled(data))
     _, out, err = harness.run([harness.TOOL, "text", folder / "row"])
     assert out + err == printed_by(told, data)
@@ -217,7 +218,7 @@ DIALECTS = DIALECT.findall((TOP / "docs" / "FORMAT.md").read_text())
 
 @pytest.mark.parametrize("data, aig, abc, yosys", DIALECTS)
 def test_dialect(folder: pathlib.Path, data: str, aig: str, abc: str, yosys: str) -> None:
-    """aigtool accepts a file of the table beside other tools, or refuses it."""
+    """aigtool accepts or refuses a file of the table about other tools, as the table states."""
     (folder / "row").write_bytes(spelled(data))
     status, _, _ = harness.run([harness.TOOL, "text", folder / "row"])
     assert status == (0 if aig == "yes" else 1)
@@ -226,7 +227,7 @@ def test_dialect(folder: pathlib.Path, data: str, aig: str, abc: str, yosys: str
 @pytest.mark.abc
 @pytest.mark.parametrize("data, aig, abc, yosys", DIALECTS)
 def test_dialect_of_abc(folder: pathlib.Path, data: str, aig: str, abc: str, yosys: str) -> None:
-    """ABC accepts a file of the table, or doesn't."""
+    """ABC accepts or refuses a file of the table, as the table states."""
     (folder / "row.aig").write_bytes(spelled(data))
     status, out, _ = harness.run(
         ["berkeley-abc", "-c", "read_aiger row.aig; print_stats"], cwd=folder
@@ -237,7 +238,7 @@ def test_dialect_of_abc(folder: pathlib.Path, data: str, aig: str, abc: str, yos
 @pytest.mark.yosys
 @pytest.mark.parametrize("data, aig, abc, yosys", DIALECTS)
 def test_dialect_of_yosys(folder: pathlib.Path, data: str, aig: str, abc: str, yosys: str) -> None:
-    """yosys accepts a file of the table, or doesn't."""
+    """yosys accepts or refuses a file of the table, as the table states."""
     (folder / "row.aig").write_bytes(spelled(data))
     status, out, err = harness.run(["yosys", "-q", "-p", "read_aiger row.aig"], cwd=folder)
     assert (status == 0) == (yosys == "yes"), (out + err).decode()

@@ -1,8 +1,8 @@
-"""Opens the site that docs/site makes in chromium, which runs without a screen.
+"""Opens the site that docs/site generates in chromium, without a screen.
 
-A page of this test loads all pages of the site in frames of 360 and 1,440 pixels, and sends what it
-finds to a server here: links, places that links may name, and elements that are cut. Links to other
-hosts aren't followed.
+A page of this test loads all pages of the site in frames that are 360 and 1,440 pixels wide. It
+sends its results to a server in this module: links, possible targets of links, and elements that
+are cut off. It doesn't follow links to other hosts.
 """
 from __future__ import annotations
 
@@ -29,7 +29,7 @@ pytestmark = pytest.mark.chromium
 
 
 class Handler(http.server.SimpleHTTPRequestHandler):
-    """Serves the files of a site, and takes what the page of the test sends."""
+    """Serves the files of a site, and receives the results that the page of the test sends."""
 
     def __init__(self, *args: Any, sent: queue.Queue[bytes], **how: Any) -> None:
         self.sent = sent
@@ -45,7 +45,7 @@ class Handler(http.server.SimpleHTTPRequestHandler):
 
 
 def looked_at(site: pathlib.Path, profile: pathlib.Path) -> dict[str, Any]:
-    """Returns what chromium finds on the pages of a site."""
+    """Returns the results of the test's page in chromium for all pages of a site."""
     sent: queue.Queue[bytes] = queue.Queue()
     server = http.server.ThreadingHTTPServer(
         ("127.0.0.1", 0), functools.partial(Handler, directory=str(site), sent=sent)
@@ -74,7 +74,7 @@ def looked_at(site: pathlib.Path, profile: pathlib.Path) -> dict[str, Any]:
 
 @pytest.fixture(scope="module")
 def seen() -> Iterator[dict[str, Any]]:
-    """What chromium finds on the pages of the site, and the site's folder."""
+    """Returns the results for the pages of the site, and the folder of the site."""
     with harness.new_folder() as folder:
         site, profile = folder / "site", folder / "profile"
         profile.mkdir()
@@ -91,7 +91,7 @@ def seen() -> Iterator[dict[str, Any]]:
 
 
 def test_links(checks: Checks, seen: dict[str, Any]) -> None:
-    """Each link of the site leads to a page and a place that are there."""
+    """Each link of the site leads to an existing page and an existing place on it."""
     names = {page["path"]: set(page["names"]) for page in seen["pages"]}
     checks.wants("the pages that were loaded", set(seen["asked"]), set(names))
     for page in seen["pages"]:
@@ -111,7 +111,7 @@ def test_links(checks: Checks, seen: dict[str, Any]) -> None:
 
 
 def test_widths(checks: Checks, seen: dict[str, Any]) -> None:
-    """Nothing is cut, in frames of 360 and 1,440 pixels."""
+    """No element is cut off in frames that are 360 and 1,440 pixels wide."""
     for page in seen["pages"]:
         checks.check(
             not page["isWide"] and not page["cut"],
@@ -120,5 +120,5 @@ def test_widths(checks: Checks, seen: dict[str, Any]) -> None:
 
 
 def test_search(seen: dict[str, Any]) -> None:
-    """The search finds the page about options for a word of it."""
+    """If one searches for a word of the page about options, the search finds this page."""
     assert any("docs/reference/" in link for link in seen["results"]), seen["results"]

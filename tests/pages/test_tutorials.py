@@ -1,11 +1,12 @@
-"""Runs the commands of every page, and compares what they print.
+"""Runs the commands of every page, and compares their output with the page.
 
-A page is run from its first block to its last, in a new folder that has the examples and links to
-the folders of the repository, with aigprove and aigwaves in the PATH as if they were installed. A
-block with a language and a name, such as `verilog NAME`, is a file. If the repository has this
-file, at that path or in the examples, both have to be the same. Otherwise the page makes it. `cat
-NAME` of a file in Verilog that isn't there writes it as the page shows it. A page needs the tools
-that its commands call.
+The commands of a page are run from the first block to the last, in a new folder with the examples
+and with links to the folders of the repository. aigprove and aigwaves are in the PATH, as if they
+were installed. A block with a language and a name, such as `verilog NAME`, is a file. If the
+repository has this file, at that path or in the examples, both have to be the same. Otherwise the
+test writes the file. If a page runs `cat NAME` for a Verilog file that doesn't exist, the test
+writes the file with the contents that the page shows. A page needs the tools that its commands
+call.
 """
 from __future__ import annotations
 
@@ -82,21 +83,21 @@ class Reader:
             (prebuilt / name).symlink_to(TOP / "crates" / name / "out" / name)
 
     def printed(self, command: str) -> str:
-        """Returns what a command prints to both streams; `$?` in it is the status of the one
-        before."""
+        """Runs a command, and returns its output to both streams. In the command, `$?` is the
+        status of the command before."""
         streams = {"stdin": subprocess.DEVNULL, "stderr": subprocess.STDOUT}
         words = ["sh", "-c", f"(exit {self.status}); {command}"]
         self.status, out, _ = harness.run(words, cwd=self.folder, env=self.environment, **streams)
         return out.decode()
 
     def write_shown(self, command: str, text: str) -> None:
-        """Writes a design that the page shows by `cat`."""
+        """Writes a design that the page prints with `cat`."""
         if (found := SHOWN.match(command)) and not (self.folder / found[1]).exists():
             (self.folder / found[1]).write_text(text)
 
     def take_file(self, name: str, text: str) -> bool:
-        """Writes a file that the page has; returns whether it is the repository's, if that has one.
-        """
+        """Writes a file that the page contains. If the repository has this file, returns whether
+        both are the same."""
         path = self.folder / name
         if path.exists():
             return path.read_text() == text
@@ -109,7 +110,7 @@ class Reader:
     "page", [pytest.param(page, marks=tools_of(page), id=str(page)) for page in PAGES]
 )
 def test_page(checks: Checks, folder: pathlib.Path, page: pathlib.Path) -> None:
-    """The commands of a page print what it says."""
+    """The commands of a page print the output that the page shows."""
     reader = Reader(folder)
     for kind, words, block in BLOCK.findall((TOP / page).read_text()):
         name = words.strip()

@@ -18,8 +18,8 @@ from collections.abc import Iterator
 from harness import TOP
 
 BLOCK = re.compile(r"^ *```.*?^ *```$|<!--.*?-->", re.DOTALL | re.MULTILINE)
-# Where a sentence ends: behind its mark, before a capital, a backquote or the end.
-END = re.compile(r"(?<=[.?!:])(?<!\.\.)\s+(?=[A-Z`*\[\"(])")
+# Where a sentence ends: after its mark, before a capital or a backquote, or before a list item.
+END = re.compile(r"(?<=[.?!:])(?<!\.\.)\s+(?:- )?(?=[A-Z`*\[\"(])")
 # Modules that are made of the headers.
 MADE = ["aig_calls.py"]
 # What isn't a word of a sentence: code, and targets of links.
@@ -47,14 +47,16 @@ def texts_of_module(path: pathlib.Path) -> Iterator[str]:
 
 
 def texts_of_header(path: pathlib.Path) -> Iterator[str]:
-    """Yields the comments of a header of C or C++."""
+    """Yields the comments of a header of C or C++, without their examples of code."""
     for found in re.findall(
         r"/\*(.*?)\*/|((?:^ *//[^\n]*\n)+)",
         path.read_text(encoding="utf-8"),
         re.DOTALL | re.MULTILINE,
     ):
         yield re.sub(
-            r"\s+", " ", re.sub(r"^ *(?://+|\*) ?", "", "".join(found), flags=re.MULTILINE)
+            r"\s+",
+            " ",
+            re.sub(r"^ *(?:\*     .*|(?://+|\*) ?)", "", "".join(found), flags=re.MULTILINE),
         )
 
 

@@ -1,8 +1,8 @@
-"""What pages show of commands: blocks of commands, and whether what is printed is as it is shown.
+"""Splits the blocks of a page into commands, and compares their output with the page.
 
-Engines take turns, so in what aigprove prints a line about a single step on the way is left out,
-and a number that depends on time isn't compared: up to which step assumptions were seen to be met,
-and the seconds of a table. A line `...` stands for any lines."""
+Engines take turns, so the output of aigprove is compared without the lines about single steps.
+Numbers that depend on time aren't compared either: the step up to which assumptions can be met, and
+the seconds of a table. A line `...` stands for any lines."""
 from __future__ import annotations
 
 import re
@@ -22,8 +22,8 @@ TIMED = re.compile(
 
 
 def commands(block: str) -> Iterator[tuple[str, str]]:
-    """Yields each command of a block, which begins with `$ ` and goes on after `> `, and what it
-    prints."""
+    """Yields each command of a block, and its output. A command begins after `$ `, and continues
+    after `> `."""
     for part in re.split(r"^\$ ", block, flags=re.MULTILINE)[1:]:
         lines = part.splitlines(keepends=True)
         count = 1
@@ -33,11 +33,11 @@ def commands(block: str) -> Iterator[tuple[str, str]]:
 
 
 def settled(text: str) -> str:
-    """Returns what is printed without what depends on time."""
+    """Returns an output without the parts that depend on time."""
     return TIMED.sub(lambda found: found[1] or found[2] or "", PASSING.sub("", text))
 
 
 def is_as_shown(shown: str, printed: str) -> bool:
-    """Returns whether the page shows what is printed, if a line `...` stands for any lines."""
+    """Returns whether the page shows the printed output, if a line `...` stands for any lines."""
     parts = [re.escape(part) for part in re.split(r"^\.\.\.\n", settled(shown), flags=re.MULTILINE)]
     return re.fullmatch("(?:.*\n)*".join(parts), settled(printed)) is not None

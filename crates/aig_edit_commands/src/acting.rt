@@ -1,4 +1,4 @@
-//! What the program does with its words.
+//! Runs the program with its arguments.
 
 ghost use Rattle.std.specs.Prelude.{◌≡◌, ◌++◌, ◌∷◌, [], ℕ, IfOk, IfSome, IsErr, IsNone, IsTrue, OnOk, length, map, string_bytes};
 ghost use Rattle.aig_circuit.specs.Circuit.{IsCircuit};
@@ -35,22 +35,22 @@ use aig_reader::ReadError;
 use std::alloc::Global;
 use thiserror::Error;
 
-/// Its version.
+/// The version of the program.
 pub const VERSION: &str = "aigedit 1.0.0";
 
-/// Why the program ends with status 1.
+/// The reasons why the program ends with status 1.
 #[derive(Clone, Copy, Debug, PartialEq, Eq, Error)]
 pub enum CommandError {
-    /// Nothing is made of one file.
+    /// A command on one file has no result.
     #[error(transparent)]
     One(EditError),
-    /// Nothing is made of two files.
+    /// A command on two files has no result.
     #[error(transparent)]
     Two(PairError),
     /// Memory was refused before a file was opened.
     #[error("out of memory")]
     Memory,
-    /// What the program tells of itself couldn't be written.
+    /// The usage text or the version couldn't be written.
     #[error("write failed")]
     Write,
 }
@@ -63,7 +63,7 @@ impl From<StreamFault> for CommandError {
     }
 }
 
-/// Writes what a command makes of the circuit of a file.
+/// Writes the result of a command on the circuit of a file.
 fn write_made<W: Sink>(
     alloc: Global,
     limit: usize,
@@ -91,7 +91,7 @@ fn write_made<W: Sink>(
     }
 }
 
-/// Writes what a command makes of the circuit of a file, and flushes that.
+/// Writes the result of a command on the circuit of a file, and flushes the output.
 fn write_flushed<W: Flush>(
     alloc: Global,
     limit: usize,
@@ -112,7 +112,7 @@ fn write_flushed<W: Flush>(
     Ok(w.flush()?)
 }
 
-/// Prints what a command prints of a file that is opened, and flushes that.
+/// Prints the result of a command on an opened file, and flushes the output.
 fn print_open<R: Source + Drop, W: Flush>(
     alloc: Global,
     limit: usize,
@@ -134,7 +134,7 @@ fn print_open<R: Source + Drop, W: Flush>(
     }
 }
 
-/// Prints what a command prints of the file at a path, and flushes that.
+/// Prints the result of a command on the file at a path, and flushes the output.
 fn print_file<F: Opens, W: Flush>(
     alloc: Global,
     files: &F,
@@ -154,7 +154,7 @@ fn print_file<F: Opens, W: Flush>(
     }
 }
 
-/// Reads two files that are opened, the second one only where the first is taken.
+/// Reads two opened files, the second only if the first is accepted.
 fn read_both<R: Source + Drop, S: Source + Drop>(
     alloc: Global,
     limit: usize,
@@ -180,7 +180,7 @@ fn read_both<R: Source + Drop, S: Source + Drop>(
     }
 }
 
-/// Writes the joint circuit of two circuits, and flushes that.
+/// Writes the joint circuit of two circuits, and flushes the output.
 fn write_pair<W: Flush>(
     pairing: Pairing,
     own: &CircuitLists,
@@ -200,7 +200,7 @@ fn write_pair<W: Flush>(
     Ok(w.flush()?)
 }
 
-/// Prints the joint circuit of two files that are opened, and flushes that.
+/// Prints the joint circuit of two opened files, and flushes the output.
 fn print_pair<R: Source + Drop, S: Source + Drop, W: Flush>(
     alloc: Global,
     limit: usize,
@@ -219,7 +219,7 @@ fn print_pair<R: Source + Drop, S: Source + Drop, W: Flush>(
     }
 }
 
-/// Prints the joint circuit of a file that is open and the file at a path, and flushes that.
+/// Prints the joint circuit of an opened file and the file at a path, and flushes the output.
 fn print_beside<F: Opens, R: Source + Drop, W: Flush>(
     alloc: Global,
     files: &F,
@@ -240,7 +240,7 @@ fn print_beside<F: Opens, R: Source + Drop, W: Flush>(
     }
 }
 
-/// Prints the joint circuit of the files at two paths, and flushes that.
+/// Prints the joint circuit of the files at two paths, and flushes the output.
 fn print<F: Opens, W: Flush>(
     alloc: Global,
     files: &F,
@@ -260,7 +260,7 @@ fn print<F: Opens, W: Flush>(
     }
 }
 
-/// A result of one file, with its error among those of the program.
+/// Returns the result of a command on one file, with its error as an error of the program.
 fn told_one(done: Result<(), Placed<EditError>>) -> Result<(), Placed<CommandError>>
     ensures { result ≡ told refusals.One done }
 {
@@ -273,7 +273,7 @@ fn told_one(done: Result<(), Placed<EditError>>) -> Result<(), Placed<CommandErr
     }
 }
 
-/// A result of two files, with its error among those of the program.
+/// Returns the result of a command on two files, with its error as an error of the program.
 fn told_two(done: Result<(), Placed<PairError>>) -> Result<(), Placed<CommandError>>
     ensures { result ≡ told refusals.Two done }
 {
@@ -319,7 +319,7 @@ fn say<W: Flush>(text: &str, w: &mut W) -> Result<(), CommandError>
     Ok(w.flush()?)
 }
 
-/// The answer to a question of the program.
+/// Answers `--help` or `--version`.
 fn answer(question: Help) -> &'static str
     ensures { result.now ≡ answer_of question }
 {
@@ -329,7 +329,7 @@ fn answer(question: Help) -> &'static str
     }
 }
 
-/// Does what the words after the program's name ask for.
+/// Runs the program with the arguments after its name.
 fn obey<F: Opens, W: Flush>(
     alloc: Global,
     words: &[String],
@@ -348,8 +348,8 @@ fn obey<F: Opens, W: Flush>(
     Ending::of(perform(alloc, files, call.limit, &call.command, call.paths, w))
 }
 
-/// Does what the words after the program's name ask for, as they were read: opens the files, prints
-/// what is made of them to `w`, and flushes it.
+/// Runs the program with its parsed arguments: opens the files, prints the result to `w`, and
+/// flushes the output.
 pub fn act<F: Opens, W: Flush>(
     alloc: Global,
     words: &Result<Option<Vec<String>>, MemoryError>,
@@ -359,7 +359,7 @@ pub fn act<F: Opens, W: Flush>(
     ensures words { IfOk words.now (λ read. IfSome read (λ given.
         Obeys (F.opens files.now) F.File.left F.File.failed W.held
         W.failed W.flushed answer_of (map string_bytes given.items) w.old result w.new)) }
-    // Words that aren't UTF-8 give no command.
+    // Arguments that aren't UTF-8 aren't a command.
     ensures other { IfOk words.now (λ read. IsNone read
         → (result ≡ endings.NoCommand) × (w.new ≡ w.old)) }
     ensures memory { IsErr words.now

@@ -1,4 +1,4 @@
-//! The commands, and the words that give them.
+//! The commands, and their arguments.
 
 ghost use Rattle.std.specs.Prelude.{◌≡◌, List, ℕ, IfNone, IfSome, length, map, string_bytes};
 ghost use Rattle.aig_command_line.specs.Limits.{IsLimit};
@@ -12,79 +12,81 @@ use aig_edits::{
     Comparison, Constraints, Edit, Fairness, Matching, Pairing, Starts, constraints_first,
 };
 
-/// How the program is used.
+/// The usage text of the program.
 pub const USAGE: &str =
     "usage: aigedit [--limit N] refine FILE, reencode FILE, unroll FILE K, move FILE, compress FILE, bads FILE, \
     property FILE N, possible FILE, reduce FILE, cone FILE N, question FILE K, live FILE J, rounds FILE J N, info FILE, \
     [--constraints first|compared] miter FILE OTHER, [--constraints first|compared] miter-alike-by-order FILE OTHER, \
     [--constraints first|compared] miter-alike-by-name FILE OTHER, join FILE CERT, merge FILE OTHER";
 
-/// What the program is asked to do with one file.
+/// A task of the program for one file.
 #[derive(Drop)]
 pub enum FileCommand {
-    /// Print what an edit makes of it.
+    /// Print the result of an edit of the file.
     Edit(Edit),
-    /// Print what of it its query needs.
+    /// Print the part of the file that its query needs.
     Reduction,
-    /// Print the question whether a bad state is reached up to this step.
+    /// Print the question for a bad state up to this step.
     Question(usize),
-    /// Print the file whose bad states are the fair lassos.
+    /// Print the live file, whose bad states are the fair lassos.
     Live(Fairness),
-    /// Print the file whose bad states are rounds, so many of them.
+    /// Print the file whose bad states mean that the given number of rounds has ended.
     Rounds(Fairness, usize),
-    /// Print its counts.
+    /// Print the counts of the file.
     Info,
 }
 
-/// What the program is asked to do.
+/// A task of the program.
 #[derive(Drop)]
 pub enum Command {
-    /// Print what is made of one file.
+    /// Print the result for one file.
     File(FileCommand),
-    /// Print what is made of two files.
+    /// Print the result for two files.
     Pair(Pairing),
 }
 
-/// A command without its number.
+/// A command without its numbers.
 #[derive(Clone, Copy)]
 pub enum Action {
-    /// `refine FILE`: print a file cut to its cone of influence.
+    /// `refine FILE`: print the cone of influence of a file.
     Refine,
-    /// `reencode FILE`: print a file in the numbering of the binary form.
+    /// `reencode FILE`: print a file with the node numbers of the binary form.
     Reencode,
     /// `unroll FILE K`: print a file with K further steps.
     Unroll,
-    /// `move FILE`: print a file with its constraints joined to the first bad literal and the first output.
+    /// `move FILE`: print a file with its constraints moved into the first bad literal and the
+    /// first output.
     Move,
-    /// `compress FILE`: print a file with its bad literals as one.
+    /// `compress FILE`: print a file with its bad literals combined into one.
     Compress,
     /// `bads FILE`: print a file with its outputs as its bad literals.
     Bads,
-    /// `property FILE N`: print a file with its bad literal N alone.
+    /// `property FILE N`: print a file with bad literal N as its only bad literal.
     Property,
-    /// `possible FILE`: print a file that is bad wherever a run has come.
+    /// `possible FILE`: print a file with the constant true as its only bad literal.
     Possible,
-    /// `reduce FILE`: print what of a file its bad literals and constraints reach.
+    /// `reduce FILE`: print the part of a file on which its bad literals and constraints depend.
     Reduce,
     /// `cone FILE N`: print the cone of output N of a file.
     Cone,
-    /// `question FILE K`: print the question whether a bad state of a file is reached up to step K.
+    /// `question FILE K`: print the question for a bad state of a file up to step K.
     Question,
-    /// `live FILE J`: print the file whose bad states are the fair lassos of justice property J of a file.
+    /// `live FILE J`: print the live file for justice property J of a file.
     Live,
-    /// `rounds FILE J N`: print the file whose bad states are N rounds of justice property J of a file.
+    /// `rounds FILE J N`: print the file that counts N rounds of justice property J of a file.
     Rounds,
     /// `info FILE`: print the counts of a file.
     Info,
-    /// `miter FILE OTHER`: print the miter of two files; behind its name how registers with open start begin.
+    /// `miter FILE OTHER`: print the miter of two files. Its name may end with how registers
+    /// without an initial value start.
     Miter(Starts),
-    /// `join FILE CERT`: print a file beside its certificate.
+    /// `join FILE CERT`: print the product of a file and its certificate.
     Join,
     /// `merge FILE OTHER`: print two files side by side.
     Merge,
 }
 
-/// The form of a command on FILE and a number.
+/// Returns the form of a command on FILE and a number.
 const NUMBERED: ArgumentForm = ArgumentForm {
     paths: 1,
     step: Step::At,
@@ -93,7 +95,8 @@ const NUMBERED: ArgumentForm = ArgumentForm {
     raw: false,
 };
 
-/// The form of a command on FILE and two numbers, of which the second is a further word.
+/// Returns the form of a command on FILE and two numbers, of which the second is a further
+/// argument.
 const COUNTED: ArgumentForm = ArgumentForm {
     paths: 1,
     step: Step::At,
@@ -102,7 +105,7 @@ const COUNTED: ArgumentForm = ArgumentForm {
     raw: false,
 };
 
-/// The word that names a miter whose registers with open start begin so.
+/// Returns the name of the miter command for how registers without an initial value start.
 fn miter_name(starts: Starts) -> &'static str
     ensures { result.now ≡ miter_name starts }
 {
@@ -152,7 +155,7 @@ impl HasArguments for Action {
 }
 
 impl Action {
-    /// Each of them.
+    /// All of these commands.
     const ALL: [Action; 19] = [
         Action::Refine,
         Action::Reencode,
@@ -175,7 +178,7 @@ impl Action {
         Action::Merge,
     ];
 
-    /// The command with its number, where it takes no further word.
+    /// Returns the command with its number, if it has no further argument.
     fn numbered(self, k: usize) -> Command
         ensures { result ≡ command_of self k }
     {
@@ -203,7 +206,8 @@ impl Action {
         }
     }
 
-    /// The command, with its number and further words, or none where these are no number that it takes.
+    /// Returns the command with its number and further arguments, or nothing if these aren't valid
+    /// numbers for it.
     fn command(self, k: usize, further: &[String]) -> Option<Command>
         ensures some { IfSome result (IsCommandOf self k (map string_bytes further.now)) }
         ensures none { IfNone result ((c : Command)
@@ -219,7 +223,7 @@ impl Action {
     }
 }
 
-/// The number that one word gives, where it is the only one.
+/// Returns the number of the only argument, if there is exactly one.
 fn counted(words: &[String]) -> Option<usize>
     ensures some { IfSome result (λ n. AreStep At n (map string_bytes words.now)) }
     ensures none { IfNone result ((n : ℕ) → ¬ AreStep At n (map string_bytes words.now)) }
@@ -230,14 +234,15 @@ fn counted(words: &[String]) -> Option<usize>
     }
 }
 
-/// The command that prints what an edit makes of a file.
+/// Returns the command that prints the result of an edit of a file.
 fn edit_by(edit: Edit) -> Command
     ensures { result ≡ edit_by edit }
 {
     Command::File(FileCommand::Edit(edit))
 }
 
-/// The command with constraints that say this. Only a miter has any that say something else than is usual.
+/// Returns the command with the given treatment of constraints. Only a miter can treat them in
+/// another way than by default.
 fn under(constraints: Constraints, command: Command) -> Option<Command>
     ensures { result ≡ under constraints command }
 {
@@ -253,7 +258,7 @@ fn under(constraints: Constraints, command: Command) -> Option<Command>
     }
 }
 
-/// What words give.
+/// The parsed arguments.
 #[derive(Drop)]
 pub struct Call<'a> {
     /// The limit on the nodes of a circuit.
@@ -264,8 +269,9 @@ pub struct Call<'a> {
     pub paths: &'a [String],
 }
 
-/// What the words after the program's name give, or none where they are wrong: N of `--limit N`, or 2^24, then what constraints say by
-/// `--constraints`, where that comes, and then the command and the paths of its files. It takes no memory.
+/// Parses the arguments after the program's name, and returns nothing if they are wrong. The result
+/// has N of `--limit N` (by default 2^24), the treatment of constraints by `--constraints`, if it
+/// is given, the command and the paths of its files. Parsing allocates no memory.
 pub fn call_of(words: &[String]) -> Option<Call<'_>>
     ensures some { IfSome result (λ c. IsCall (map string_bytes words.now) c.limit c.command
         (map string_bytes c.paths.now)) }

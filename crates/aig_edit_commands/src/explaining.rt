@@ -1,4 +1,4 @@
-//! Which file a refusal is about.
+//! Finds the file to which a refusal belongs.
 
 ghost use Rattle.std.specs.Prelude.{◌≡◌, IfNone, IfOk, IfSome, IsErr, IsNone, None, Some, map, string_bytes};
 ghost use Rattle.aig_command_line.specs.Ending.{IsMapped};
@@ -10,7 +10,7 @@ use crate::subjects::{Subject, about_error};
 use aig_base::MemoryError;
 use aig_command_line::{Ending, Fault, Placed, path_at};
 
-/// The path of what an error is about, if it is about a file.
+/// Returns the path of the file to which an error belongs, if it belongs to a file.
 fn path_of(paths: &[String], subject: Subject) -> Option<&str>
     ensures some { IfSome result
         (λ path. word_of subject (map string_bytes paths.now) ≡ Some path.now) }
@@ -23,7 +23,7 @@ fn path_of(paths: &[String], subject: Subject) -> Option<&str>
     }
 }
 
-/// What is told of an error of a command on the files at these paths.
+/// Returns the message about an error of a command on the files at these paths.
 fn fault_of(paths: &[String], refused: Placed<CommandError>) -> Fault<'_, CommandError>
     ensures { TellsPlaced (map string_bytes paths.now) refused result }
 {
@@ -37,7 +37,7 @@ fn fault_of(paths: &[String], refused: Placed<CommandError>) -> Fault<'_, Comman
     }
 }
 
-/// What is told of an error of the command that words give.
+/// Returns the message about an error of the command with these arguments.
 fn fault_by(words: &[String], refused: Placed<CommandError>) -> Fault<'_, CommandError>
     ensures { TellsOf (map string_bytes words.now) refused result }
 {
@@ -47,14 +47,15 @@ fn fault_by(words: &[String], refused: Placed<CommandError>) -> Fault<'_, Comman
     }
 }
 
-/// Tells which file a refusal is about. Each other ending stays, and so do the error of a refusal and its place.
+/// Adds the name of the file to a refusal. Other results don't change, and neither do the error and
+/// the location of a refusal.
 pub fn explain(
     words: &Result<Option<Vec<String>>, MemoryError>,
     ending: Ending<Placed<CommandError>>,
 ) -> Ending<Fault<'_, CommandError>>
     ensures words { IfOk words.now (λ read. IfSome read (λ given.
         IsMapped (TellsOf (map string_bytes given.items)) ending result)) }
-    // An error before there are words is about no file.
+    // An error before the arguments are read doesn't belong to a file.
     ensures other { IfOk words.now (λ read. IsNone read → IsMapped IsToldAlone ending result) }
     ensures memory { IsErr words.now → IsMapped IsToldAlone ending result }
 {

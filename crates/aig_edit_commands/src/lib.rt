@@ -1,4 +1,4 @@
-//! The commands of `aigedit`: which words give them, and what they do with the bytes of files.
+//! The commands of `aigedit`: their arguments, and their effect on the bytes of files.
 #![tactic(auto)]
 
 mod acting;

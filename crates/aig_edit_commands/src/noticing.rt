@@ -1,4 +1,4 @@
-//! What an answer isn't about.
+//! Notes about the parts of files that an answer doesn't cover.
 
 ghost use Rattle.std.specs.Prelude.{◌≡◌, IfOk, IfSome, IsErr, IsNone, map, string_bytes};
 ghost use Rattle.aig_edit_commands.specs.Noticing.{TellsBeside, is_within, regard_of};
@@ -9,14 +9,16 @@ use aig_base::MemoryError;
 use aig_command_line::{Ending, Headers, Placed, Regard, Teller, tell_of_files};
 use aig_edits::{Constraints, Edit, Pairing};
 
-/// Whether it is told that only runs are compared that constraints allow: not where the words say what constraints say.
+/// Returns whether a note is printed that only runs which meet the constraints are compared. It
+/// isn't printed if the arguments contain `--constraints`.
 fn is_within(constraints: Constraints) -> bool
     ensures { result ≡ is_within constraints }
 {
     matches!(constraints, Constraints::OfBoth)
 }
 
-/// What a command does with parts of its files that its answer isn't about: which leave out justice and fairness, and which compares.
+/// Returns which notes a command needs: whether it drops justice and fairness, and whether it
+/// compares.
 fn regard_of(command: &Command) -> Regard
     ensures { result ≡ regard_of command.now }
 {
@@ -36,7 +38,7 @@ fn regard_of(command: &Command) -> Regard
     }
 }
 
-/// Tells beside an answer to these words what it isn't about.
+/// Prints, with the answer to these arguments, the notes about what it doesn't cover.
 fn tell_beside<T: Teller>(
     words: &[String],
     headers: Headers,
@@ -61,7 +63,8 @@ fn tell_beside<T: Teller>(
     );
 }
 
-/// Tells beside an answer what it isn't about, of each file with such a header.
+/// Prints, with an answer, the notes about what it doesn't cover, for each file whose header
+/// requires them.
 pub fn notice<T: Teller>(
     words: &Result<Option<Vec<String>>, MemoryError>,
     headers: Headers,

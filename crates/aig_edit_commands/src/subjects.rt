@@ -1,4 +1,4 @@
-//! What an error is about.
+//! The file to which an error belongs.
 
 ghost use Rattle.std.specs.Prelude.{◌≡◌};
 ghost use Rattle.aig_edit_commands.specs.Subjects as specs;
@@ -7,7 +7,7 @@ use crate::acting::CommandError;
 use aig_edits::{EditError, PairError};
 use aig_reader::ReadError;
 
-/// What an error is about.
+/// The file to which an error belongs.
 #[derive(Clone, Copy, PartialEq, Eq)]
 pub(crate) enum Subject {
     /// No file.
@@ -18,7 +18,7 @@ pub(crate) enum Subject {
     Other,
 }
 
-/// What an error of reading a file is about.
+/// Returns the file to which an error of reading a file belongs.
 fn about_read(subject: Subject, error: ReadError) -> Subject
     ensures { result ≡ specs.about_read subject error }
 {
@@ -28,7 +28,7 @@ fn about_read(subject: Subject, error: ReadError) -> Subject
     }
 }
 
-/// What an error of one file is about.
+/// Returns the file to which an error of a command on one file belongs.
 fn about_edit(error: EditError) -> Subject
     ensures { result ≡ specs.about_edit error }
 {
@@ -39,7 +39,7 @@ fn about_edit(error: EditError) -> Subject
     }
 }
 
-/// What an error of two files is about.
+/// Returns the file to which an error of a command on two files belongs.
 fn about_pair(error: PairError) -> Subject
     ensures { result ≡ specs.about_pair error }
 {
@@ -52,7 +52,7 @@ fn about_pair(error: PairError) -> Subject
     }
 }
 
-/// What an error of the program is about.
+/// Returns the file to which an error of the program belongs.
 pub(crate) fn about_error(error: CommandError) -> Subject
     ensures { result ≡ specs.about_error error }
 {

@@ -1,4 +1,4 @@
-//! Why a circuit isn't unrolled further.
+//! The errors of unrolling a circuit further.
 
 ghost use Rattle.std.specs.Prelude.{◌≡◌};
 ghost use Rattle.aig_steps.specs.declared.error.StepError.TheVariants as errors;
@@ -6,13 +6,13 @@ ghost use Rattle.aig_steps.specs.declared.error.StepError.TheVariants as errors;
 use aig_base::MemoryError;
 use thiserror::Error;
 
-/// Why a circuit isn't unrolled further.
+/// The errors of unrolling a circuit further.
 #[derive(Clone, Copy, Debug, PartialEq, Eq, Error)]
 pub enum StepError {
     /// Memory was refused.
     #[error("out of memory")]
     Memory,
-    /// There may be 2^31 nodes or more after the step.
+    /// After the step there could be 2^31 nodes or more.
     #[error("unrolled circuit may pass the limit")]
     TooLarge,
 }

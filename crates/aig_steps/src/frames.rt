@@ -10,7 +10,8 @@ ghost use Rattle.aig_steps.specs.Stepwise.{node_clauses};
 use aig_base::{LitVvec, MemoryError, Var};
 use aig_circuit::{AigEdge, AigNode, AigNodeType};
 
-/// Appends the clauses of a node: that false is false, and that a gate is the and of its operands.
+/// Appends the clauses of a node. They state that node 0 is false, or that a gate is the and of its
+/// operands.
 fn push_node(clauses: &mut LitVvec, node: &AigNode) -> Result<(), MemoryError>
     requires { HasVariables node.now }
     ensures { OnOk result (clauses.new ≡ clauses.old ++ node_clauses node.now) }
@@ -39,7 +40,7 @@ pub(crate) fn push_nodes(clauses: &mut LitVvec, nodes: &[AigNode]) -> Result<(),
     Ok(())
 }
 
-/// Appends for each edge the clause that it is false.
+/// Appends a clause for each edge, which states that the edge is false.
 pub(crate) fn push_inverses(clauses: &mut LitVvec, edges: &[AigEdge]) -> Result<(), MemoryError>
     requires { All (λ e. e.node_id < 2 ^ 31) edges.now }
     ensures { OnOk result (clauses.new ≡ clauses.old ++ unit_clauses (map inverse edges.now)) }
@@ -50,7 +51,7 @@ pub(crate) fn push_inverses(clauses: &mut LitVvec, edges: &[AigEdge]) -> Result<
     Ok(())
 }
 
-/// The entries of step `step`, where each step has `count`.
+/// Returns the entries of step `step`, if each step has `count` entries.
 pub(crate) fn entries_of(entries: &[AigEdge], count: usize, step: usize) -> &[AigEdge]
     requires { (step + 1) * count ≤ length entries.now }
     ensures { result.now ≡ entries_at count step entries.now }

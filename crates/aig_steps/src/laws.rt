@@ -1,4 +1,4 @@
-//! What the clauses of steps say together.
+//! Laws about the clauses of several steps.
 
 ghost use Rattle.std.specs.Prelude.{◌↔◌, ◌≤◌, ◌+◌, ℕ, All, Contains, List, false};
 ghost use Rattle.aig_base.specs.declared.logic.literal.Lit.{Lit};
@@ -17,28 +17,30 @@ ghost use Rattle.aig_unroll.specs.Unroll.{UnrollsTo};
 ghost use Rattle.aig_steps.specs.Induction.{IsCircuitInductive};
 ghost use Rattle.aig_steps.specs.Stepwise.{AsksForRuns, GoesOn, stepwise_clauses, stepwise_query, stepwise_window};
 
-/// Law: the assignments that satisfy the clauses of the steps 0 to k are exactly the runs of k + 1 steps on which every
-/// constraint holds, whatever their first states.
+/// Law: the assignments that satisfy the clauses of the steps 0 to k are exactly the runs of k + 1
+/// steps, from any state, on which every constraint is true.
 pub fn steps_ask_for_runs()
     ensures { (c unrolled : Circuit) (k : ℕ) → IsCircuit c → IsCircuit unrolled
         → UnrollsTo c k unrolled → AsksForRuns c unrolled k }
 {}
 
-/// Law: with further steps the clauses of earlier ones stay, and variables keep their meaning.
+/// Law: if further steps are added, the clauses of earlier steps and the meaning of variables don't
+/// change.
 pub fn steps_go_on()
     ensures { (c : Circuit) (j k : ℕ) → j ≤ k → GoesOn c j k }
 {}
 
-/// Law: the clauses of the steps 0 to k have those by which the unrolled circuit is encoded, where each gate is encoded as
-/// the and that it is.
+/// Law: the clauses of the steps 0 to k contain the clauses of the unrolled circuit in which each
+/// gate is encoded as an and.
 pub fn steps_contain_encodings()
     ensures { (c : Circuit) (k : ℕ) (lists : List (List (List Lit)))
         → IsCircuit (with_steps c k) → HasClauses (with_steps c k) false lists
         → All (Contains (stepwise_clauses c k)) (clauses_in lists) }
 {}
 
-/// Law: the clauses that ask for a bad state at step k are satisfiable exactly where a run from an initial state meets every
-/// constraint at the steps 0 to k and some bad edge at step k; so where they are refuted, the circuit is safe at step k.
+/// Law: the clauses of the query for a bad state at step k are satisfiable if and only if a run
+/// from an initial state meets every constraint at the steps 0 to k and is bad at step k. So if
+/// they are refuted, the circuit is safe at step k.
 pub fn stepwise_queries_ask()
     ensures asks { (c unrolled : Circuit) (k : ℕ) → IsCircuit c → IsCircuit unrolled
         → UnrollsTo c k unrolled → IsSatisfiable (stepwise_query c k) ↔ HasCircuitWitness c k }
@@ -46,8 +48,9 @@ pub fn stepwise_queries_ask()
         → UnrollsTo c k unrolled → ¬ IsSatisfiable (stepwise_query c k) → IsCircuitSafeAt c k }
 {}
 
-/// Law: where the clauses that ask for a window of k + 2 steps are refuted, a circuit has no such window that is bad first at its
-/// end, and neither has a file's machine, where they are of its circuit (`inductive_windows_are_safe`).
+/// Law: if the clauses of the query for a window of k + 2 steps are refuted, the circuit has no
+/// such window that is bad only at its last step. The same is true for the machine of a file with
+/// this circuit (`inductive_windows_are_safe`).
 pub fn stepwise_windows_are_inductive()
     ensures circuits { (c unrolled : Circuit) (k : ℕ) → IsCircuit c → IsCircuit unrolled
         → UnrollsTo c (k + 1) unrolled → ¬ IsSatisfiable (stepwise_window c k)
@@ -57,8 +60,8 @@ pub fn stepwise_windows_are_inductive()
         → ¬ IsSatisfiable (stepwise_window (circuit_of f) k) → IsKInductive Plain f k }
 {}
 
-/// Law: a circuit that is safe at the steps 0 to k, and has no window of k + 2 steps that is bad first at its end, is safe at every
-/// step.
+/// Law: if a circuit is safe at the steps 0 to k, and has no window of k + 2 steps that is bad only
+/// at its last step, it is safe at every step.
 pub fn inductive_circuits_are_safe()
     ensures { (c : Circuit) (k n : ℕ) → ((t : ℕ) → t ≤ k → IsCircuitSafeAt c t)
         → IsCircuitInductive c k → IsCircuitSafeAt c n }

@@ -1,4 +1,5 @@
-//! Unrolling step by step, for solvers that are given the clauses of one step after another.
+//! Unrolling step by step, for incremental solvers, which get the clauses of one step after the
+//! other.
 #![tactic(auto)]
 
 mod error;

@@ -24,14 +24,15 @@ use aig_runs::{push_any, push_starts, push_units};
 use std::alloc::Global;
 use std::marker::Model;
 
-/// How many nodes there are at most: the variable of each has a number that the DIMACS format can write.
+/// The largest possible number of nodes. The variable of each node has a number that the DIMACS
+/// format can represent.
 const MOST_NODES: usize = (1 << 31) - 1;
 
-/// A circuit, and the circuit with further steps, of which one after another is added.
+/// A circuit, and the same circuit with further steps, which are added one after the other.
 ///
-/// The clauses of a step, its bad edges and its inputs are asked for by its number, as often as is wanted: they depend on
-/// the circuit and the step alone, and not on steps that are added later. A variable of the clauses is a node of the unrolled
-/// circuit, by its number.
+/// The clauses, the bad edges and the inputs of a step depend only on the circuit and the number of
+/// the step, and not on steps that are added later. So they can be requested several times. A
+/// variable of the clauses has the number of its node in the unrolled circuit.
 pub struct Unrolling {
     circuit: Aig,
     unrolled: Aig,
@@ -69,7 +70,7 @@ impl Model for Unrolling {
 }
 
 impl Unrolling {
-    /// Begins with no further step. The circuit is copied twice.
+    /// Returns an unrolling without further steps. The circuit is copied twice.
     ///
     /// # Errors
     ///
@@ -86,7 +87,7 @@ impl Unrolling {
         Ok(Unrolling::begin(alloc, circuit)?)
     }
 
-    /// Begins with no further step, where the variables have numbers.
+    /// Returns an unrolling without further steps, if the variables have DIMACS numbers.
     fn begin(alloc: Global, circuit: &Aig) -> Result<Unrolling, MemoryError>
         requires { length circuit.now.nodes < 2 ^ 31 }
         ensures { IfOk result (λ u. u ≡ record { circuit = circuit.now; steps = 0 }) }
@@ -98,7 +99,7 @@ impl Unrolling {
         })
     }
 
-    /// The circuit.
+    /// Returns the circuit.
     pub fn circuit(&self) -> &Aig
         ensures value { result.now ≡ self.now.circuit }
         ensures stepped { IsStepped self.now }
@@ -106,7 +107,7 @@ impl Unrolling {
         &self.circuit
     }
 
-    /// How many further steps there are.
+    /// Returns the number of further steps.
     pub fn steps(&self) -> usize
         ensures value { result ≡ self.now.steps }
         ensures stepped { IsStepped self.now }
@@ -114,7 +115,7 @@ impl Unrolling {
         self.ends.len() - 1
     }
 
-    /// The circuit with its further steps (`Aig::unroll`).
+    /// Returns the circuit with its further steps (`Aig::unroll`).
     pub fn unrolled(&self) -> &Aig
         ensures value { result.now ≡ unrolled_of self.now }
         ensures stepped { IsStepped self.now }
@@ -122,13 +123,14 @@ impl Unrolling {
         &self.unrolled
     }
 
-    /// Adds a step, in time linear in the circuit, whatever steps there are. After an error all is as it was.
+    /// Adds a step, in time linear in the size of the circuit, however many steps there are. After
+    /// an error, nothing has changed.
     ///
     /// # Errors
     ///
     /// - `Memory`: memory was refused.
-    /// - `TooLarge`: there may be 2^31 nodes or more with the step, by the bound of one more node for each gate and each leaf
-    ///   that is no latch's.
+    /// - `TooLarge`: with the step, there could be 2^31 nodes or more. For this test, each gate and
+    ///   each leaf that doesn't belong to a latch counts as one more node.
     pub fn add_step(&mut self) -> Result<(), StepError>
         ensures { StepsOr self.old self.new result }
     {
@@ -141,7 +143,7 @@ impl Unrolling {
         Ok(self.add()?)
     }
 
-    /// Adds a step, for whose nodes there are numbers.
+    /// Adds a step, if its nodes have DIMACS numbers.
     fn add(&mut self) -> Result<(), MemoryError>
         requires { next_size self.old < 2 ^ 31 }
         ensures ok { OnOk result (self.new ≡ with_one_more self.old) }
@@ -153,7 +155,7 @@ impl Unrolling {
         Ok(())
     }
 
-    /// The bad edges of a step.
+    /// Returns the bad edges of a step.
     pub fn bads(&self, step: usize) -> &[AigEdge]
         requires { step ≤ self.now.steps }
         ensures edges { result.now ≡ bads_at self.now.circuit step }
@@ -163,8 +165,8 @@ impl Unrolling {
         entries_of(self.unrolled.bads(), count, step)
     }
 
-    /// The inputs that a step after the first adds. The r-th is for the r-th leaf of the circuit that is no latch's, in rising
-    /// number.
+    /// Returns the inputs that a step after the first adds. The r-th of them corresponds to the
+    /// r-th leaf of the circuit that doesn't belong to a latch, in increasing order.
     pub fn added_inputs(&self, step: usize) -> &[usize]
         requires first { 0 < step }
         requires last { step ≤ self.now.steps }
@@ -176,7 +178,7 @@ impl Unrolling {
         &self.unrolled.inputs()[first..first + count]
     }
 
-    /// The number of the first node of a step but for node 0.
+    /// Returns the number of the first node of a step, apart from node 0.
     fn first_node(&self, step: usize) -> usize
         requires { step ≤ self.now.steps }
         ensures { result ≡ first_later self.now.circuit step }
@@ -184,7 +186,7 @@ impl Unrolling {
         if step == 0 { 1 } else { self.ends[step - 1] }
     }
 
-    /// The nodes of a step but for node 0.
+    /// Returns the nodes of a step, except node 0.
     fn nodes_of(&self, step: usize) -> &[AigNode]
         requires { step ≤ self.now.steps }
         ensures nodes { result.now ≡ later_nodes self.now.circuit step }
@@ -195,7 +197,7 @@ impl Unrolling {
         &self.unrolled.nodes()[first..self.ends[step]]
     }
 
-    /// The constraints of a step.
+    /// Returns the constraints of a step.
     fn constraints_of(&self, step: usize) -> &[AigEdge]
         requires { step ≤ self.now.steps }
         ensures edges { result.now ≡ constraints_at self.now.circuit step }
@@ -205,7 +207,7 @@ impl Unrolling {
         entries_of(self.unrolled.constraints(), count, step)
     }
 
-    /// Appends the clauses of a step but that of node 0.
+    /// Appends the clauses of a step, except that of node 0.
     fn push_later(&self, clauses: &mut LitVvec, step: usize) -> Result<(), MemoryError>
         requires { step ≤ self.now.steps }
         ensures clauses { OnOk result
@@ -216,8 +218,9 @@ impl Unrolling {
         push_units(clauses, self.constraints_of(step))
     }
 
-    /// Returns the clauses of a step: of each node that the step adds, and that each of its constraints holds. Step 0 has
-    /// the circuit's nodes, and first that variable 0 is false. The one error is refused memory.
+    /// Returns the clauses of a step: those of each node that the step adds, and those which state
+    /// that its constraints are true. Step 0 has the nodes of the circuit, and its first clause
+    /// states that variable 0 is false. The only error is refused memory.
     pub fn step_clauses(&self, alloc: Global, step: usize) -> Result<LitVvec, MemoryError>
         requires { step ≤ self.now.steps }
         ensures clauses { IfOk result (λ clauses. clauses ≡ step_clauses self.now.circuit step) }
@@ -229,8 +232,9 @@ impl Unrolling {
         Ok(clauses)
     }
 
-    /// Returns the clauses that each latch with an initial edge has its value at step 0. They are no step's, and are left
-    /// out where runs from any state are asked for. The one error is refused memory.
+    /// Returns clauses which state that each latch with an initial edge has the value of this edge
+    /// at step 0. They don't belong to any step, and aren't used for runs from any state. The only
+    /// error is refused memory.
     pub fn initial_clauses(&self, alloc: Global) -> Result<LitVvec, MemoryError>
         ensures clauses { IfOk result (λ clauses. clauses ≡ initial_clauses self.now.circuit) }
         ensures below { IfOk result (AreBelow (2 ^ 31 - 1)) }
@@ -240,7 +244,7 @@ impl Unrolling {
         Ok(clauses)
     }
 
-    /// Appends the clauses of the steps up to one, but that of node 0.
+    /// Appends the clauses of the steps up to a given step, except that of node 0.
     fn push_all_later(&self, clauses: &mut LitVvec, step: usize) -> Result<(), MemoryError>
         requires { step ≤ self.now.steps }
         ensures { OnOk result (clauses.new ≡ clauses.old ++ all_later self.now.circuit (step + 1)) }
@@ -251,7 +255,7 @@ impl Unrolling {
         self.push_later(clauses, step)
     }
 
-    /// The clauses that ask for a bad state at a step, but that of node 0.
+    /// Returns the clauses of the query for a bad state at a step, except that of node 0.
     fn later_query(&self, alloc: Global, step: usize) -> Result<LitVvec, MemoryError>
         requires { step ≤ self.now.steps }
         ensures { IfOk result (λ clauses. clauses ≡ all_later self.now.circuit (step + 1)
@@ -264,7 +268,7 @@ impl Unrolling {
         Ok(clauses)
     }
 
-    /// The bad edges of the steps up to one.
+    /// Returns the bad edges of the steps up to a given step.
     fn bads_to(&self, step: usize) -> &[AigEdge]
         requires { step ≤ self.now.steps }
         ensures edges { result.now ≡ (with_steps self.now.circuit step).properties.bads }
@@ -274,7 +278,7 @@ impl Unrolling {
         &self.unrolled.bads()[..(step + 1) * count]
     }
 
-    /// The clauses that ask for a window that ends at a step, but that of node 0.
+    /// Returns the clauses of the query for a window that ends at a step, except that of node 0.
     fn later_window(&self, alloc: Global, last: usize) -> Result<LitVvec, MemoryError>
         requires first { 0 < last }
         requires last { last ≤ self.now.steps }
@@ -289,7 +293,8 @@ impl Unrolling {
         Ok(clauses)
     }
 
-    /// Checks a proof that clauses over the nodes of the steps 0 to `last` can't be satisfied, together with that of node 0.
+    /// Checks a proof that clauses over the nodes of the steps 0 to `last` can't be satisfied
+    /// together with the clause of node 0.
     fn check<R: Source>(
         &self,
         alloc: Global,
@@ -308,14 +313,16 @@ impl Unrolling {
         check_refutation(alloc, &names, clauses, r)
     }
 
-    /// Checks a proof that no run from an initial state meets each constraint at the steps 0 to `step`, and a bad edge at
-    /// `step`: an LRAT or a DRAT proof, text or binary, as `aig_refutation::check_refutation` takes it. What it refutes are
-    /// the clauses of the steps 0 to `step`, in order, then those of initial values, and one clause of the bad edges, numbered
-    /// from 1 on. Steps that were added later don't matter.
+    /// Checks a proof that no run from an initial state meets each constraint at the steps 0 to
+    /// `step` and is bad at `step`. The proof is an LRAT or a DRAT proof, text or binary, that
+    /// `aig_refutation::check_refutation` accepts. It has to refute the following clauses, numbered
+    /// from 1: those of the steps 0 to `step`, in order, those of the initial values, and one
+    /// clause of the bad edges. Steps that were added later don't matter.
     ///
     /// # Errors
     ///
-    /// Those of `check_refutation`. After `Memory` nothing may have been read.
+    /// The errors are those of `check_refutation`. After `Memory`, it is possible that nothing was
+    /// read.
     pub fn check_step<R: Source>(
         &self,
         alloc: Global,
@@ -323,11 +330,11 @@ impl Unrolling {
         r: &mut R,
     ) -> Result<(), RefutationError>
         requires { step ≤ self.now.steps }
-        // No such run is there.
+        // There is no such run.
         ensures safe { OnOk result (IsCircuitSafeAt self.now.circuit step) }
-        // Stream only where a read failed in this call.
+        // Stream is returned only if a read failed in this call.
         ensures stream { IsErrOf result RefutationError.Stream → R.failed r.new ≡ true }
-        // Which proofs are taken, and which error others get.
+        // Which proofs are accepted, and which errors the others get.
         ensures shown { Shows (length (with_steps self.now.circuit step).nodes)
             (stepwise_query self.now.circuit step) (R.left r.old) result }
     {
@@ -335,14 +342,17 @@ impl Unrolling {
         self.check(alloc, step, &clauses, r)
     }
 
-    /// Checks a proof that no run of `last + 1` steps, from any state, meets each constraint and is bad first at its end, as
-    /// `check_step` checks one. What it refutes are the clauses of the steps 0 to `last`, in order, then for each bad edge of the
-    /// steps before `last` that it is false, and one clause of the bad edges of `last`, numbered from 1 on. With safety at the
-    /// steps before `last` the circuit is safe at every step (`inductive_circuits_are_safe`).
+    /// Checks a proof that no run of `last + 1` steps, from any state, meets each constraint and is
+    /// bad only at its last step. The proof has the format that `check_step` accepts. It has to
+    /// refute the following clauses, numbered from 1: those of the steps 0 to `last`, in order, a
+    /// clause for each bad edge of the steps before `last`, which states that it is false, and one
+    /// clause of the bad edges of `last`. If the circuit is also safe at the steps before `last`,
+    /// it is safe at every step (`inductive_circuits_are_safe`).
     ///
     /// # Errors
     ///
-    /// Those of `check_refutation`. After `Memory` nothing may have been read.
+    /// The errors are those of `check_refutation`. After `Memory`, it is possible that nothing was
+    /// read.
     pub fn check_window<R: Source>(
         &self,
         alloc: Global,
@@ -351,11 +361,11 @@ impl Unrolling {
     ) -> Result<(), RefutationError>
         requires first { 0 < last }
         requires last { last ≤ self.now.steps }
-        // No such run is there.
+        // There is no such run.
         ensures inductive { OnOk result (IsCircuitInductive self.now.circuit (last - 1)) }
-        // Stream only where a read failed in this call.
+        // Stream is returned only if a read failed in this call.
         ensures stream { IsErrOf result RefutationError.Stream → R.failed r.new ≡ true }
-        // Which proofs are taken, and which error others get.
+        // Which proofs are accepted, and which errors the others get.
         ensures shown { Shows (length (with_steps self.now.circuit last).nodes)
             (stepwise_window self.now.circuit (last - 1)) (R.left r.old) result }
     {
@@ -364,7 +374,7 @@ impl Unrolling {
     }
 }
 
-/// Appends the clause of node 0, which is step 0's.
+/// Appends the clause of node 0, which belongs to step 0.
 fn push_false(clauses: &mut LitVvec, step: usize) -> Result<(), MemoryError>
     ensures { OnOk result (clauses.new ≡ clauses.old ++ first_clauses step) }
 {
@@ -374,7 +384,8 @@ fn push_false(clauses: &mut LitVvec, step: usize) -> Result<(), MemoryError>
     Ok(())
 }
 
-/// The variables of so many nodes, of which that of node 0 is false and the others have no clauses.
+/// Returns clauses over the variables of the given number of nodes. The variable of node 0 is
+/// false, and the others have no clauses.
 fn variables(alloc: Global, nodes: usize) -> Result<DagCnf, MemoryError>
     requires some { 1 ≤ nodes }
     requires few { nodes < 2 ^ 31 }

@@ -12,9 +12,9 @@ use std::fs;
 use std::ops::{Deref, Index, Range};
 use std::path::Path;
 
-/// How many items of a list there is room for at first.
+/// The initial size of the buffer for a list.
 pub(crate) const ROOM: usize = 1024;
-/// How many variables a file has at most, false among them.
+/// The largest possible number of variables of a file, including the constant false.
 const LIMIT: usize = 1 << 31;
 
 /// The lists of property edges.
@@ -35,10 +35,10 @@ impl PropList {
     const ALL: [PropList; 4] = [PropList::Outputs, PropList::Bads, PropList::Constraints, PropList::Fairness];
 }
 
-/// What a circuit has: these are read as fields of an `Aig`, as in `aig.nodes`, and changed by its calls alone.
+/// The contents of a circuit. They are read as fields of an `Aig`, as in `aig.nodes`, and only its calls change them.
 #[derive(Debug, Clone, Default)]
 pub struct Lists {
-    /// The nodes, each at the place of its number.
+    /// The nodes, by their numbers.
     pub nodes: Vec<AigNode>,
     /// The numbers of the inputs.
     pub inputs: Vec<usize>,
@@ -85,20 +85,22 @@ impl Lists {
     }
 }
 
-/// An And-Inverter Graph, which is held by the proved library.
+/// An And-Inverter Graph, whose data are in the proved library.
 ///
-/// Its calls have the names, the arguments and the results of the crate aig 0.4.6. Where that one panics, or indexes out of range later because
-/// of what it was given, a call panics here, as its section `Panics` says; what can be asked before stands there in brackets. No call panics
-/// otherwise, but where a circuit would have more than 2^31 nodes. Without memory the program ends, as it does with std's collections.
+/// Its calls have the names, the arguments and the results of the crate aig 0.4.6. If that crate panics, or would index out of range
+/// later because of an argument, the call here panics. The section `Panics` of the call describes these cases, and names in brackets the
+/// call that tests for them. In other cases, a call panics only if the circuit would have more than 2^31 nodes. If memory runs out, the
+/// program ends, as with std's collections.
 ///
-/// What a circuit has is read as fields, as in `aig.bads.len()`: see `Lists`. An `Aig` may be sent to another thread, and not shared by two.
+/// The contents of a circuit are read as fields, as in `aig.bads.len()` (see `Lists`). An `Aig` may be sent to another thread, but two
+/// threads can't share it.
 pub struct Aig {
     held: Held,
-    /// What it has, if that was read since the last change that isn't put down here.
+    /// A copy of the circuit's contents, if it was loaded since the last change that doesn't update it.
     lists: OnceCell<Lists>,
 }
 
-/// The literal of an edge, which is to a node below 2^31.
+/// Returns the literal of an edge, whose node has to be below 2^31.
 #[track_caller]
 pub(crate) fn literal(edge: AigEdge) -> u32 {
     u32::from(edge.to_lit())
@@ -124,7 +126,7 @@ fn latch_of(latch: Latch) -> AigLatch {
     AigLatch::new(latch.input, edge_of(latch.next), latch.has_init.then(|| edge_of(latch.init)))
 }
 
-/// The kind of a call of C that joins two edges.
+/// The type of a call of C that returns an edge for two edges.
 type Gate = unsafe extern "C" fn(*mut Handle, u32, u32, *mut u32) -> u32;
 
 // ---- what is shared by the calls. SAFETY of each: a pointer and a length are of a slice that is borrowed for the call, and what is written is
@@ -135,19 +137,19 @@ impl Aig {
         Aig { held: Held::circuit(), lists: OnceCell::new() }
     }
 
-    /// The handle, for a call of another type.
+    /// Returns the handle, for a call of another type.
     pub(crate) fn held(&self) -> &Held {
         &self.held
     }
 
-    /// Makes a call that changes more than is put down in the lists, which are read anew then.
+    /// Makes a call whose changes don't update the lists. They are loaded again at the next read.
     #[track_caller]
     fn change(&mut self, call: impl FnOnce(*mut Handle) -> u32) {
         self.lists.take();
         taken(self.held.call(call))
     }
 
-    /// Returns a copy that a call changed.
+    /// Makes a call on a copy, and returns the copy.
     #[track_caller]
     fn changed(&self, call: impl FnOnce(*mut Handle) -> u32) -> Self {
         let mut made = self.clone();
@@ -159,7 +161,7 @@ impl Aig {
         taken(self.held.list(ROOM, call)).into_iter().map(edge_of).collect()
     }
 
-    /// Reads what the circuit has.
+    /// Loads the contents of the circuit.
     fn load(&self) -> Lists {
         let nodes = taken(self.held.list(self.num_nodes(), |h, out, len, needed| unsafe { calls::aig_circuit_nodes(h, out, len, needed) }));
         let latchs = taken(self.held.list(ROOM, |h, out, len, needed| unsafe { calls::aig_circuit_latchs(h, out, len, needed) }));
@@ -181,7 +183,7 @@ impl Aig {
         lists
     }
 
-    /// Adds a leaf by a call that tells its number.
+    /// Adds a leaf with a call that returns its number.
     #[track_caller]
     fn add_leaf(&mut self, call: impl FnOnce(*mut Handle, *mut usize) -> u32) -> usize {
         let id = taken(self.held.tell(call));
@@ -191,7 +193,7 @@ impl Aig {
         id
     }
 
-    /// Joins two edges by a call that adds their gate, or none.
+    /// Makes a call that returns an edge for two edges, and adds at most one gate.
     #[track_caller]
     fn join(&mut self, gate: Gate, fanin0: AigEdge, fanin1: AigEdge) -> AigEdge {
         let (a, b) = (literal(fanin0), literal(fanin1));
@@ -204,7 +206,7 @@ impl Aig {
         edge
     }
 
-    /// Joins edges from the left. All are looked at before the first gate is added.
+    /// Combines edges from left to right. All edges are tested before the first gate is added.
     #[track_caller]
     fn join_all(&mut self, gate: Gate, edges: Vec<AigEdge>) -> AigEdge {
         assert!(edges.iter().all(|edge| self.has_edge(*edge)), "each edge is of the circuit");
@@ -212,7 +214,7 @@ impl Aig {
         joined.unwrap_or(AigEdge::constant(true))
     }
 
-    /// Whether a call says so.
+    /// Makes a call that returns a truth value, and returns this value.
     fn asks(&self, call: impl FnOnce(*mut Handle, *mut bool) -> u32) -> bool {
         taken(self.held.tell(call))
     }
@@ -225,7 +227,7 @@ impl Aig {
 // ---- leaves, latches, gates and names
 
 impl Aig {
-    /// Returns the circuit of node 0 alone.
+    /// Returns the circuit that has only node 0.
     pub fn new() -> Self {
         let made = Aig::empty();
         taken(made.held.call(|h| unsafe { calls::aig_circuit_new(h) }));
@@ -237,7 +239,7 @@ impl Aig {
         self.add_leaf(|h, node| unsafe { calls::aig_circuit_new_leaf_node(h, node) })
     }
 
-    /// Adds a leaf that is the last input, and returns its number.
+    /// Adds a leaf as the last input, and returns its number.
     pub fn new_input(&mut self) -> usize {
         let input = self.add_leaf(|h, node| unsafe { calls::aig_circuit_new_input(h, node) });
         if let Some(lists) = self.lists.get_mut() {
@@ -246,7 +248,7 @@ impl Aig {
         input
     }
 
-    /// Makes a free leaf the last input.
+    /// Adds a free leaf of the circuit to the inputs, as the last input.
     ///
     /// # Panics
     ///
@@ -258,11 +260,12 @@ impl Aig {
         }
     }
 
-    /// Adds a leaf with the last latch, and returns the leaf's number. A latch that reads a later node has its next edge set by `set_next`.
+    /// Adds a leaf and a latch with this leaf, and returns the number of the leaf. If the next edge of the latch is an edge to a later
+    /// node, set it by `set_next` afterwards.
     ///
     /// # Panics
     ///
-    /// If an edge isn't one of the circuit (`has_edge`).
+    /// If an edge doesn't belong to the circuit (`has_edge`).
     pub fn new_latch(&mut self, next: AigEdge, init: Option<AigEdge>) -> usize {
         let (a, b) = (literal(next), init.map_or(0, literal));
         let input = self.add_leaf(|h, node| unsafe { calls::aig_circuit_new_latch(h, a, init.is_some(), b, node) });
@@ -272,11 +275,11 @@ impl Aig {
         input
     }
 
-    /// Makes a free leaf the leaf of the last latch.
+    /// Adds a latch whose leaf is a free leaf of the circuit.
     ///
     /// # Panics
     ///
-    /// If the node isn't a free leaf (`is_free_leaf`), or an edge isn't one of the circuit (`has_edge`).
+    /// If the node isn't a free leaf (`is_free_leaf`), or an edge doesn't belong to the circuit (`has_edge`).
     pub fn add_latch(&mut self, input: usize, next: AigEdge, init: Option<AigEdge>) {
         let (a, b) = (literal(next), init.map_or(0, literal));
         taken(self.held.call(|h| unsafe { calls::aig_circuit_add_latch(h, input, a, init.is_some(), b) }));
@@ -285,92 +288,94 @@ impl Aig {
         }
     }
 
-    /// Adds a gate, the and of two edges.
+    /// Adds a gate for the and of two edges.
     ///
     /// # Panics
     ///
-    /// If an edge isn't one of the circuit (`has_edge`).
+    /// If an edge doesn't belong to the circuit (`has_edge`).
     pub fn trivial_new_and_node(&mut self, fanin0: AigEdge, fanin1: AigEdge) -> AigEdge {
         self.join(calls::aig_circuit_trivial_new_and_node, fanin0, fanin1)
     }
 
-    /// Returns the and of two edges. It adds no gate if an edge is constant, or both have one node.
+    /// Returns the and of two edges. Adds no gate if an edge is constant, or both edges have the same node.
     ///
     /// # Panics
     ///
-    /// If an edge isn't one of the circuit (`has_edge`).
+    /// If an edge doesn't belong to the circuit (`has_edge`).
     pub fn new_and_node(&mut self, fanin0: AigEdge, fanin1: AigEdge) -> AigEdge {
         self.join(calls::aig_circuit_new_and_node, fanin0, fanin1)
     }
 
-    /// Adds a gate for the or of two edges: the inverse of the gate of their inverses.
+    /// Adds a gate for the or of two edges. The returned edge is the inverse of a gate for the and of their inverses.
     ///
     /// # Panics
     ///
-    /// If an edge isn't one of the circuit (`has_edge`).
+    /// If an edge doesn't belong to the circuit (`has_edge`).
     pub fn trivial_new_or_node(&mut self, fanin0: AigEdge, fanin1: AigEdge) -> AigEdge {
         !self.trivial_new_and_node(!fanin0, !fanin1)
     }
 
-    /// Returns the or of two edges: the inverse of `new_and_node` of their inverses.
+    /// Returns the or of two edges, which is the inverse of `new_and_node` of their inverses.
     ///
     /// # Panics
     ///
-    /// If an edge isn't one of the circuit (`has_edge`).
+    /// If an edge doesn't belong to the circuit (`has_edge`).
     pub fn new_or_node(&mut self, fanin0: AigEdge, fanin1: AigEdge) -> AigEdge {
         !self.new_and_node(!fanin0, !fanin1)
     }
 
-    /// Returns the and of edges, joined from the left, with a gate for each after the first. Of no edges it is true.
+    /// Returns the and of edges, combined from left to right, with a gate for each edge after the first. If there are no edges, the
+    /// result is true.
     ///
     /// # Panics
     ///
-    /// If an edge isn't one of the circuit (`has_edge`).
+    /// If an edge doesn't belong to the circuit (`has_edge`).
     pub fn trivial_new_ands_node(&mut self, fanin: impl IntoIterator<Item = AigEdge>) -> AigEdge {
         self.join_all(calls::aig_circuit_trivial_new_and_node, fanin.into_iter().collect())
     }
 
-    /// Returns the and of edges, joined from the left by `new_and_node`. Of no edges it is true.
+    /// Returns the and of edges, combined from left to right by `new_and_node`. If there are no edges, the result is true.
     ///
     /// # Panics
     ///
-    /// If an edge isn't one of the circuit (`has_edge`).
+    /// If an edge doesn't belong to the circuit (`has_edge`).
     pub fn new_ands_node(&mut self, fanin: impl IntoIterator<Item = AigEdge>) -> AigEdge {
         self.join_all(calls::aig_circuit_new_and_node, fanin.into_iter().collect())
     }
 
-    /// Returns the or of edges: the inverse of `trivial_new_ands_node` of their inverses. Of no edges it is false.
+    /// Returns the or of edges, which is the inverse of `trivial_new_ands_node` of their inverses. If there are no edges, the result is
+    /// false.
     ///
     /// # Panics
     ///
-    /// If an edge isn't one of the circuit (`has_edge`).
+    /// If an edge doesn't belong to the circuit (`has_edge`).
     pub fn trivial_new_ors_node(&mut self, fanin: impl IntoIterator<Item = AigEdge>) -> AigEdge {
         !self.trivial_new_ands_node(fanin.into_iter().map(|edge| !edge))
     }
 
-    /// Returns the or of edges: the inverse of `new_ands_node` of their inverses. Of no edges it is false.
+    /// Returns the or of edges, which is the inverse of `new_ands_node` of their inverses. If there are no edges, the result is false.
     ///
     /// # Panics
     ///
-    /// If an edge isn't one of the circuit (`has_edge`).
+    /// If an edge doesn't belong to the circuit (`has_edge`).
     pub fn new_ors_node(&mut self, fanin: impl IntoIterator<Item = AigEdge>) -> AigEdge {
         !self.new_ands_node(fanin.into_iter().map(|edge| !edge))
     }
 
-    /// Returns an edge that is true where the first edge implies the second.
+    /// Returns an edge that is true if and only if the first edge implies the second.
     ///
     /// # Panics
     ///
-    /// If an edge isn't one of the circuit (`has_edge`).
+    /// If an edge doesn't belong to the circuit (`has_edge`).
     pub fn new_imply_node(&mut self, fanin0: AigEdge, fanin1: AigEdge) -> AigEdge {
         self.new_or_node(!fanin0, fanin1)
     }
 
-    /// Returns an edge that is true where two edges are equal.
+    /// Returns an edge that is true if and only if two edges are equal.
     ///
     /// # Panics
     ///
-    /// If an edge isn't one of the circuit (`has_edge`).
+    /// If an edge doesn't belong to the circuit (`has_edge`).
     pub fn new_eq_node(&mut self, fanin0: AigEdge, fanin1: AigEdge) -> AigEdge {
         let both = self.new_and_node(fanin0, fanin1);
         let neither = self.new_and_node(!fanin0, !fanin1);
@@ -386,11 +391,11 @@ impl Aig {
         }
     }
 
-    /// Names a node, in place of an older name.
+    /// Sets the name of a node, and replaces an older name.
     ///
     /// # Panics
     ///
-    /// If there is no such node (`has_node`).
+    /// If the node doesn't exist (`has_node`).
     pub fn set_symbol(&mut self, id: usize, s: &str) {
         taken(self.held.call(|h| unsafe { calls::aig_circuit_set_symbol(h, id, s.as_ptr(), s.len()) }));
         if let Some(lists) = self.lists.get_mut() {
@@ -406,7 +411,7 @@ impl Aig {
     ///
     /// # Panics
     ///
-    /// If the edge isn't one of the circuit (`has_edge`).
+    /// If the edge doesn't belong to the circuit (`has_edge`).
     pub fn push_edge(&mut self, list: PropList, e: AigEdge) {
         taken(self.held.call(|h| unsafe { calls::aig_circuit_push_edge(h, list as u32, literal(e)) }));
         if let Some(lists) = self.lists.get_mut() {
@@ -418,7 +423,7 @@ impl Aig {
     ///
     /// # Panics
     ///
-    /// If there is no such entry, or the edge isn't one of the circuit (`has_edge`).
+    /// If the entry doesn't exist, or the edge doesn't belong to the circuit (`has_edge`).
     pub fn set_edge(&mut self, list: PropList, i: usize, e: AigEdge) {
         taken(self.held.call(|h| unsafe { calls::aig_circuit_set_edge(h, list as u32, i, literal(e)) }));
         if let Some(lists) = self.lists.get_mut() {
@@ -430,7 +435,7 @@ impl Aig {
     ///
     /// # Panics
     ///
-    /// If an edge isn't one of the circuit (`has_edge`).
+    /// If an edge doesn't belong to the circuit (`has_edge`).
     pub fn set_edges(&mut self, list: PropList, edges: &[AigEdge]) {
         let given = literals(edges);
         taken(self.held.call(|h| unsafe { calls::aig_circuit_set_edges(h, list as u32, given.as_ptr(), given.len()) }));
@@ -448,7 +453,7 @@ impl Aig {
     ///
     /// # Panics
     ///
-    /// If an edge isn't one of the circuit (`has_edge`).
+    /// If an edge doesn't belong to the circuit (`has_edge`).
     pub fn push_justice(&mut self, set: Vec<AigEdge>) {
         let given = literals(&set);
         taken(self.held.call(|h| unsafe { calls::aig_circuit_push_justice(h, given.as_ptr(), given.len()) }));
@@ -469,7 +474,7 @@ impl Aig {
     ///
     /// # Panics
     ///
-    /// If there is no such latch, or the edge isn't one of the circuit (`has_edge`).
+    /// If the latch doesn't exist, or the edge doesn't belong to the circuit (`has_edge`).
     pub fn set_next(&mut self, i: usize, e: AigEdge) {
         taken(self.held.call(|h| unsafe { calls::aig_circuit_set_next(h, i, literal(e)) }));
         if let Some(lists) = self.lists.get_mut() {
@@ -477,11 +482,11 @@ impl Aig {
         }
     }
 
-    /// Replaces the initial edge of latch `i`, counted from 0, or drops it.
+    /// Replaces the initial edge of latch `i`, counted from 0, or removes it.
     ///
     /// # Panics
     ///
-    /// If there is no such latch, or the edge isn't one of the circuit (`has_edge`).
+    /// If the latch doesn't exist, or the edge doesn't belong to the circuit (`has_edge`).
     pub fn set_init(&mut self, i: usize, e: Option<AigEdge>) {
         taken(self.held.call(|h| unsafe { calls::aig_circuit_set_init(h, i, e.is_some(), e.map_or(0, literal)) }));
         if let Some(lists) = self.lists.get_mut() {
@@ -489,11 +494,11 @@ impl Aig {
         }
     }
 
-    /// Gives gate `i` the operands of another gate.
+    /// Replaces the operands of gate `i` by those of the given gate.
     ///
     /// # Panics
     ///
-    /// If one of both isn't a gate, or an operand has no smaller number than `i` (`admits`).
+    /// If one of the two nodes isn't a gate, or the number of an operand isn't smaller than `i` (`admits`).
     pub fn set_node(&mut self, i: usize, node: AigNode) {
         let (fanin0, fanin1) = node.fanin();
         taken(self.held.call(|h| unsafe { calls::aig_circuit_set_node(h, i, literal(fanin0), literal(fanin1)) }));
@@ -506,12 +511,12 @@ impl Aig {
 // ---- what a circuit has
 
 impl Aig {
-    /// Returns how many nodes there are, node 0 among them.
+    /// Returns the number of nodes, including node 0.
     pub fn num_nodes(&self) -> usize {
         taken(self.held.tell(|h, count| unsafe { calls::aig_circuit_num_nodes(h, count) }))
     }
 
-    /// Returns the numbers of all nodes but 0.
+    /// Returns the numbers of all nodes except node 0.
     pub fn nodes_range(&self) -> Range<usize> {
         1..self.num_nodes()
     }
@@ -526,32 +531,32 @@ impl Aig {
         self.nodes.iter().filter(|node| node.is_and())
     }
 
-    /// Returns whether there is a node of this number.
+    /// Returns whether a node with this number exists.
     pub fn has_node(&self, id: usize) -> bool {
         self.asks(|h, answer| unsafe { calls::aig_circuit_has_node(h, id, answer) })
     }
 
-    /// Returns whether the node of an edge is there.
+    /// Returns whether the node of an edge exists.
     pub fn has_edge(&self, e: AigEdge) -> bool {
         self.has_node(e.node_id())
     }
 
-    /// Returns whether a node is there and is a leaf that is neither an input nor a latch's.
+    /// Returns whether a node exists and is a free leaf, that is, neither an input nor the leaf of a latch.
     pub fn is_free_leaf(&self, id: usize) -> bool {
         self.asks(|h, answer| unsafe { calls::aig_circuit_is_free_leaf(h, id, answer) })
     }
 
-    /// Returns whether no leaf is free.
+    /// Returns whether the circuit has no free leaves.
     pub fn is_closed(&self) -> bool {
         self.asks(|h, answer| unsafe { calls::aig_circuit_is_closed(h, answer) })
     }
 
-    /// Returns whether there are at most 2^31 nodes.
+    /// Returns whether the circuit has at most 2^31 nodes.
     pub fn fits_lits(&self) -> bool {
         self.asks(|h, answer| unsafe { calls::aig_circuit_fits_lits(h, answer) })
     }
 
-    /// Returns whether `set_node` takes this.
+    /// Returns whether `set_node` accepts these arguments.
     pub fn admits(&self, i: usize, node: &AigNode) -> bool {
         if !node.is_and() || !self.has_edge(node.fanin0()) || !self.has_edge(node.fanin1()) {
             return false;
@@ -570,11 +575,11 @@ impl Aig {
         answer
     }
 
-    /// Returns for each node whether edges reach it along operands. Their own nodes are reached.
+    /// Returns for each node whether it is the node of a given edge, or can be reached from one along operands.
     ///
     /// # Panics
     ///
-    /// If an edge isn't one of the circuit (`has_edge`).
+    /// If an edge doesn't belong to the circuit (`has_edge`).
     pub fn fanin_logic_cone<'a, I: IntoIterator<Item = &'a AigEdge>>(&self, logic: I) -> Vec<bool> {
         let given: Vec<u32> = logic.into_iter().copied().map(literal).collect();
         let (at, count) = (given.as_ptr(), given.len());
@@ -583,18 +588,20 @@ impl Aig {
         }))
     }
 
-    /// Returns for each node whether it is 0, one of these nodes, or reached from one along operands and, from a latch's leaf, along its next edge.
+    /// Returns for each node whether it is node 0, a given node, or can be reached from one along operands and, from the leaf of a latch,
+    /// along its next edge.
     fn influence(&self, root: &[usize]) -> Vec<bool> {
         taken(self.held.list(self.num_nodes(), |h, out, len, needed| unsafe {
             calls::aig_circuit_coi(h, root.as_ptr(), root.len(), out, len, needed)
         }))
     }
 
-    /// Returns node 0, these nodes, and what they reach along operands and, from a latch's leaf, along its next edge.
+    /// Returns node 0, the given nodes, and all nodes that can be reached from them along operands and, from the leaf of a latch, along
+    /// its next edge.
     ///
     /// # Panics
     ///
-    /// If there is no node of one of these numbers (`has_node`).
+    /// If one of the nodes doesn't exist (`has_node`).
     pub fn coi(&self, root: &[usize]) -> HashSet<usize> {
         let marks = self.influence(root);
         (0..marks.len()).filter(|id| marks[*id]).collect()
@@ -604,11 +611,11 @@ impl Aig {
 // ---- other circuits, clauses and values
 
 impl Aig {
-    /// Returns the circuit cut to its cone of influence, and of which variable each of its variables comes.
+    /// Returns the cone of influence of the circuit, and the map from its variables to the variables of the circuit.
     ///
     /// # Panics
     ///
-    /// If there are more than 2^31 nodes (`fits_lits`).
+    /// If the circuit has more than 2^31 nodes (`fits_lits`).
     pub fn coi_refine(&self) -> (Aig, VarVMap) {
         let inits = self.latchs.iter().filter_map(|latch| latch.init).map(|init| init.node_id());
         let leaves = self.latchs.iter().map(|latch| latch.input);
@@ -620,11 +627,11 @@ impl Aig {
         (self.changed(|h| unsafe { calls::aig_circuit_coi_refine(h) }), restore)
     }
 
-    /// Adds one step of the circuit `from`, of which this one holds the steps so far.
+    /// Adds one step of the circuit `from` to this circuit, which contains the previous steps.
     ///
     /// # Panics
     ///
-    /// If this circuit doesn't begin with the other one (`begins_with`).
+    /// If this circuit doesn't begin with the nodes of the other one (`begins_with`).
     pub fn unroll(&mut self, from: &Aig) {
         self.lists.take();
         taken(self.held.call_with(&from.held, |h, other| unsafe { calls::aig_circuit_unroll(h, other) }));
@@ -635,13 +642,14 @@ impl Aig {
         self.changed(|h| unsafe { calls::aig_circuit_unroll_to(h, k) })
     }
 
-    /// Appends the nodes of another circuit but 0, and the entries of all its lists. Names don't come along.
+    /// Appends the nodes of another circuit, except node 0, and the entries of all its lists. The names of the other circuit aren't
+    /// copied.
     pub fn merge(&mut self, other: &Aig) {
         self.lists.take();
         taken(self.held.call_with(&other.held, |h, other| unsafe { calls::aig_circuit_merge(h, other) }));
     }
 
-    /// Returns the circuit in the numbering of the binary form: inputs first, then the leaves of latches, then gates.
+    /// Returns the circuit with its nodes in the order of the binary form: inputs first, then the leaves of latches, then gates.
     ///
     /// # Panics
     ///
@@ -650,44 +658,45 @@ impl Aig {
         self.changed(|h| unsafe { calls::aig_circuit_reencode(h) })
     }
 
-    /// Returns the circuit with its constraints moved into the first bad edge and the first output, by a latch that is true while all have held.
+    /// Returns the circuit with its constraints moved into the first bad edge and the first output. A new latch records whether all
+    /// constraints have been true so far.
     pub fn aig_move(&self) -> Self {
         self.changed(|h| unsafe { calls::aig_circuit_aig_move(h) })
     }
 
-    /// Replaces the bad edges by one, their or, and returns those that were there.
+    /// Replaces the bad edges by one bad edge, which is their or, and returns the old bad edges.
     pub fn compress_property(&mut self) -> Vec<AigEdge> {
         let old = self.bads.clone();
         self.change(|h| unsafe { calls::aig_circuit_compress_property(h) });
         old
     }
 
-    /// Replaces initial edges that aren't constant by constraints, with one latch more that is true at step 0 alone.
+    /// Replaces initial edges that aren't constant by constraints, and adds a latch that is true only at step 0.
     pub fn gate_init_to_constraint(&mut self) {
         self.change(|h| unsafe { calls::aig_circuit_gate_init_to_constraint(h) });
     }
 
-    /// Returns the circuit in which gates share one node where their trees are equal (structural hashing).
+    /// Returns the circuit with all gates merged whose trees are equal (structural hashing).
     pub fn strash(&self) -> Self {
         self.changed(|h| unsafe { calls::aig_circuit_strash(h) })
     }
 
-    /// Returns the clauses, with one variable for each node, of the node's number. `optimize` says whether exclusive ors and choices have
-    /// clauses of their own.
+    /// Returns the clauses. Each node has the variable with its number. `optimize` selects whether exclusive ors and if-then-elses have
+    /// shorter clauses of their own.
     ///
     /// # Panics
     ///
-    /// If there are 2^31 nodes or more (`fits_lits`).
+    /// If the circuit has 2^31 nodes or more (`fits_lits`).
     pub fn cnf(&self, optimize: bool) -> DagCnf {
         let numbers = taken(self.held.list(ROOM, |h, out, len, needed| unsafe { calls::aig_circuit_cnf(h, optimize, out, len, needed) }));
         DagCnf::of(self.num_nodes(), &numbers)
     }
 
-    /// Returns the value of each node where inputs and latches have these values, in order. Free leaves are unknown.
+    /// Returns the value of each node, in order, for the given values of inputs and latches. Free leaves are unknown.
     ///
     /// # Panics
     ///
-    /// If there are more or fewer values than inputs or latches (`inputs`, `latchs`).
+    /// If the number of values isn't the number of inputs or latches (`inputs`, `latchs`).
     pub fn ternary_simulate(&self, input: &[Lbool], state: &[Lbool]) -> Vec<Lbool> {
         let (input, state) = (Lbool::numbers(input), Lbool::numbers(state));
         Lbool::values(taken(self.held.list(self.num_nodes(), |h, out, len, needed| unsafe {
@@ -699,7 +708,8 @@ impl Aig {
 // ---- files
 
 impl Aig {
-    /// Reads the bytes of a file, text or binary, of at most `limit` variables, false among them, from 1 to 2^31.
+    /// Returns the circuit of the bytes of a file, text or binary, with at most `limit` variables, including the constant false. `limit`
+    /// is from 1 to 2^31.
     pub fn from_aiger(file: &[u8], limit: usize) -> Result<Self> {
         let made = Aig::empty();
         made.held.call(|h| unsafe { calls::aig_circuit_from_aiger(h, file.as_ptr(), file.len(), limit) })?;
@@ -710,7 +720,7 @@ impl Aig {
     ///
     /// # Panics
     ///
-    /// If it can't be read, or isn't a good file (`from_aiger`).
+    /// If the file can't be read, or isn't a valid AIGER file (`from_aiger`).
     pub fn from_file<P: AsRef<Path>>(f: P) -> Self {
         let bytes = fs::read(&f).unwrap_or_else(|error| panic!("{}: {error}", f.as_ref().display()));
         Aig::from_aiger(&bytes, LIMIT).unwrap_or_else(|status| panic!("{}: {status}", f.as_ref().display()))
@@ -720,7 +730,7 @@ impl Aig {
     ///
     /// # Panics
     ///
-    /// If it can't be written, or the circuit has no such form (`write_text`, `write_binary`).
+    /// If the file can't be written, or the circuit doesn't have this form (`write_text`, `write_binary`).
     pub fn to_file<P: AsRef<Path>>(&self, f: P, ascii: bool) {
         let bytes = taken(if ascii { self.write_text() } else { self.write_binary() });
         fs::write(&f, bytes).unwrap_or_else(|error| panic!("{}: {error}", f.as_ref().display()));
@@ -731,13 +741,13 @@ impl Aig {
         self.bytes(ROOM, |h, out, len, needed| unsafe { calls::aig_circuit_write_text(h, out, len, needed) })
     }
 
-    /// Returns the binary form, which is that of the circuit that `reencode` returns.
+    /// Returns the binary form, with the numbers of nodes after `reencode`.
     pub fn write_binary(&self) -> Result<Vec<u8>> {
         self.bytes(ROOM, |h, out, len, needed| unsafe { calls::aig_circuit_write_binary(h, out, len, needed) })
     }
 }
 
-/// Prints the text form. A circuit that has none gives an error.
+/// Prints the text form. If the circuit has no text form, formatting returns an error.
 impl Display for Aig {
     fn fmt(&self, f: &mut fmt::Formatter<'_>) -> fmt::Result {
         let text = self.write_text().map_err(|_| fmt::Error)?;
@@ -781,11 +791,11 @@ impl Deref for Aig {
 impl Index<usize> for Aig {
     type Output = AigNode;
 
-    /// Returns the node of a number.
+    /// Returns the node with a number.
     ///
     /// # Panics
     ///
-    /// If there is no such node (`has_node`).
+    /// If the node doesn't exist (`has_node`).
     fn index(&self, index: usize) -> &AigNode {
         &self.nodes[index]
     }

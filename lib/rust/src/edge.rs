@@ -5,7 +5,7 @@ use std::cmp::Ordering;
 use std::mem::swap;
 use std::ops::Not;
 
-/// An edge: a node's number, and whether it is inverted.
+/// An edge: the number of a node, and whether the edge is inverted.
 #[derive(Debug, Clone, Copy, Hash, PartialEq, Eq)]
 pub struct AigEdge {
     id: usize,
@@ -21,7 +21,7 @@ impl Not for AigEdge {
 }
 
 impl From<usize> for AigEdge {
-    /// The edge to a node, which isn't inverted.
+    /// Returns the edge to a node, which isn't inverted.
     fn from(value: usize) -> Self {
         AigEdge::new(value, false)
     }
@@ -33,7 +33,7 @@ impl PartialOrd for AigEdge {
     }
 }
 
-/// Edges are ordered by their nodes alone: an edge and its inverse have one place, though they aren't equal.
+/// Edges are ordered only by their nodes. So `cmp` of an edge and its inverse returns `Equal`, although they aren't `==`.
 impl Ord for AigEdge {
     fn cmp(&self, other: &Self) -> Ordering {
         self.id.cmp(&other.id)
@@ -61,7 +61,7 @@ impl AigEdge {
         self.id = nodeid;
     }
 
-    /// Says whether the edge is inverted.
+    /// Sets whether the edge is inverted.
     pub fn set_compl(&mut self, compl: bool) {
         self.complement = compl;
     }
@@ -81,12 +81,12 @@ impl AigEdge {
         self.id == 0
     }
 
-    /// Returns whether the edge is this constant.
+    /// Returns whether the edge is the given constant.
     pub fn is_constant(&self, polarity: bool) -> bool {
         *self == AigEdge::constant(polarity)
     }
 
-    /// Returns the value of a constant edge, and nothing of another.
+    /// Returns the value of a constant edge, and `None` for any other edge.
     pub fn try_to_constant(self) -> Option<bool> {
         self.is_const().then_some(self.complement)
     }
@@ -114,7 +114,7 @@ impl AigEdge {
         Lit::new(self.id.into(), !self.complement)
     }
 
-    /// Returns the edge to the node of another number, inverted as this one.
+    /// Returns the edge to the node with the mapped number, inverted if this edge is.
     pub fn map<M>(&self, map: &M) -> Self
     where
         M: Fn(usize) -> usize,
@@ -123,25 +123,25 @@ impl AigEdge {
     }
 }
 
-/// A latch: its leaf's number, its next edge, and its initial edge, if it has one.
+/// A latch: the number of its leaf, its next edge, and its initial edge, if it has one.
 #[derive(Debug, Clone, Copy)]
 pub struct AigLatch {
     /// The number of its leaf.
     pub input: usize,
-    /// Its value in the next step.
+    /// The edge whose value the latch has in the next step.
     pub next: AigEdge,
-    /// Its value in the first step, which is open without it.
+    /// The edge whose value the latch has in the first step. Without it, the initial value is open.
     pub init: Option<AigEdge>,
 }
 
 impl AigLatch {
-    /// Returns a latch of these.
+    /// Returns a latch with these edges.
     pub fn new(input: usize, next: AigEdge, init: Option<AigEdge>) -> Self {
         AigLatch { input, next, init }
     }
 }
 
-/// What a node is: false, a leaf, or the and of two edges.
+/// The kind of a node: false, a leaf, or the and of two edges.
 #[derive(Debug, Clone)]
 pub enum AigNodeType {
     /// Node 0.
@@ -164,7 +164,7 @@ impl AigNode {
         AigNode { id, typ }
     }
 
-    /// Returns the gate of two operands, the one to the lower node first.
+    /// Returns the gate with two operands. The operand with the lower node comes first.
     pub(crate) fn new_and(id: usize, mut fanin0: AigEdge, mut fanin1: AigEdge) -> Self {
         if (fanin0.id, fanin0.complement) > (fanin1.id, fanin1.complement) {
             swap(&mut fanin0, &mut fanin1);
@@ -177,7 +177,7 @@ impl AigNode {
         self.id
     }
 
-    /// Returns what it is.
+    /// Returns the kind of the node.
     pub fn typ(&self) -> &AigNodeType {
         &self.typ
     }
@@ -238,7 +238,7 @@ impl AigNode {
         self.typ = AigNodeType::And(self.fanin0(), fanin);
     }
 
-    /// Returns the node of another number, whose operands are mapped, too.
+    /// Returns the node with the mapped number, whose operands are mapped, too.
     pub fn map<M>(&self, map: &M) -> Self
     where
         M: Fn(usize) -> usize,

@@ -1,4 +1,4 @@
-//! Handles of C: what owns one, and how calls are made on it.
+//! Owners of C handles, and calls on them.
 
 use crate::handle_calls as calls;
 use crate::{given, held, Result, Status};
@@ -7,15 +7,15 @@ use std::cell::RefCell;
 use std::ffi::c_void;
 use std::ptr::null_mut;
 
-/// Statuses of aig.h: memory is refused, and a node has no name.
+/// The statuses of aig.h for refused memory, and for a node without a name.
 const MEMORY: Status = Status(2);
 pub(crate) const NO_NAME: Status = Status(118);
 
-/// A handle as C has it.
+/// A handle, with the layout that it has in C.
 #[repr(C)]
 pub(crate) struct Handle(*mut c_void);
 
-/// A node as C has it.
+/// A node, with the layout that it has in C.
 #[repr(C)]
 #[derive(Clone, Copy, Default)]
 pub(crate) struct Node {
@@ -24,7 +24,7 @@ pub(crate) struct Node {
     pub fanin1: u32,
 }
 
-/// A latch as C has it.
+/// A latch, with the layout that it has in C.
 #[repr(C)]
 #[derive(Clone, Copy, Default)]
 pub(crate) struct Latch {
@@ -34,7 +34,8 @@ pub(crate) struct Latch {
     pub has_init: bool,
 }
 
-/// A handle that is let go at the end. The calls change a handle where they only read, too, so that only one is made at a time.
+/// An owned handle, which is freed when it is dropped. Calls that only read also change the handle for a moment, so only one call is made
+/// at a time.
 pub(crate) struct Held {
     handle: RefCell<Handle>,
     free: unsafe extern "C" fn(*mut Handle),
@@ -66,7 +67,7 @@ impl Held {
         Held { handle: RefCell::new(Handle(null_mut())), free: calls::aig_unrolling_free }
     }
 
-    /// Makes a call, whose status it gives.
+    /// Makes a call, and returns its status.
     pub fn call(&self, call: impl FnOnce(*mut Handle) -> u32) -> Result<()> {
         held(call(&mut *self.handle.borrow_mut()))
     }
@@ -76,14 +77,14 @@ impl Held {
         held(call(&mut *self.handle.borrow_mut(), &mut *other.handle.borrow_mut()))
     }
 
-    /// Makes a call that tells something.
+    /// Makes a call, and returns its result.
     pub fn tell<T: Default>(&self, call: impl FnOnce(*mut Handle, *mut T) -> u32) -> Result<T> {
         let mut told = T::default();
         self.call(|handle| call(handle, &mut told))?;
         Ok(told)
     }
 
-    /// Makes a call that gives a list of about so many items.
+    /// Makes a call that returns a list, with space for the given number of items initially.
     pub fn list<T: Copy + Default>(&self, room: usize, call: impl Fn(*mut Handle, *mut T, usize, *mut usize) -> u32) -> Result<Vec<T>> {
         let mut handle = self.handle.borrow_mut();
         let at: *mut Handle = &mut *handle;
@@ -91,7 +92,8 @@ impl Held {
     }
 }
 
-/// Returns what a call gives. Without memory it ends the program, as collections of std do, and it panics if the call is refused.
+/// Returns the result of a call. If memory runs out, the program ends, as with std's collections. If the call is refused, the function
+/// panics.
 #[track_caller]
 pub(crate) fn taken<T>(result: Result<T>) -> T {
     match result {

@@ -1,8 +1,8 @@
 //! The proved circuit library: functions from the bytes of AIGER files to answers, and circuits that stay in memory (`Aig`).
 //!
-//! What each call promises is proved, of the calls of `aig.h` that stand under it; this crate is not. The functions keep nothing, and can be
-//! called from several threads. `Aig`, `AigEdge`, `AigLatch`, `AigNode` and `TernarySimulate` have the names of the crate aig 0.4.6, and its
-//! calls. `Unrolling` unrolls a circuit step by step.
+//! The functions of this crate call those of `aig.h`, whose promises are proved. This crate itself isn't proved. The functions on files
+//! can be called from several threads. `Aig`, `AigEdge`, `AigLatch`, `AigNode` and `TernarySimulate` have the names and the calls of the
+//! crate aig 0.4.6. `Unrolling` unrolls a circuit step by step.
 
 use std::cell::Cell;
 use std::fmt;
@@ -26,11 +26,11 @@ pub use made::*;
 pub use ternary::TernarySimulate;
 pub use unrolling::Unrolling;
 
-/// Why a call has no answer: a status of `aig.h` above 1. It is printed in the words of the programs.
+/// The reason why a call has no answer: a status of `aig.h` above 1. It is printed as the message that the programs print.
 #[derive(Clone, Copy, PartialEq, Eq)]
 pub struct Status(pub u32);
 
-/// What a call gives, or why it doesn't.
+/// The answer of a call, or the reason why there is none.
 pub type Result<T> = std::result::Result<T, Status>;
 
 impl fmt::Display for Status {
@@ -49,46 +49,47 @@ impl fmt::Debug for Status {
 
 impl std::error::Error for Status {}
 
-/// Clauses as DIMACS numbers, with a 0 after each, and which literals stand for what, in the file's order.
+/// Clauses as DIMACS numbers, with a 0 after each clause, and the literals of inputs, latches and bad state properties, in the file's
+/// order.
 #[derive(Clone, Debug, PartialEq, Eq)]
 pub struct Clauses {
-    /// How many variables they have: 1 up to this one.
+    /// The largest variable of the clauses.
     pub variables: usize,
     /// The numbers.
     pub numbers: Vec<i32>,
-    /// The literals that stand for the inputs, step by step.
+    /// The literals of the inputs, step by step.
     pub inputs: Vec<Vec<i32>>,
-    /// Those that stand for the latches at step 0.
+    /// The literals of the latches at step 0.
     pub latches: Vec<i32>,
-    /// Those that stand for the bad state properties at the last step.
+    /// The literals of the bad state properties at the last step.
     pub bads: Vec<i32>,
 }
 
 /// A bad state that a witness shows.
 #[derive(Clone, Copy, Debug, PartialEq, Eq)]
 pub struct Shown {
-    /// The number of the bad state property, from 0 on.
+    /// The number of the bad state property, counted from 0.
     pub bad: usize,
-    /// The step, from 0 on.
+    /// The step, counted from 0.
     pub step: usize,
 }
 
 /// A fair lasso that a witness shows.
 #[derive(Clone, Copy, Debug, PartialEq, Eq)]
 pub struct Lasso {
-    /// The number of the justice property, from 0 on.
+    /// The number of the justice property, counted from 0.
     pub justice: usize,
-    /// The step at which the loop starts, from 0 on.
+    /// The step at which the loop starts, counted from 0.
     pub start: usize,
-    /// The last step, after which the state is that before the loop's start.
+    /// The last step. After it, the state is the same as before the first step of the loop.
     pub last: usize,
 }
 
-/// How much room an answer is given at first.
+/// The initial size of the buffer for an answer.
 const ROOM: usize = 1 << 16;
 
-/// The items that a call gives, which is made once more where they don't fit. It is handed what it may write to: `room` items, and how
-/// many it gave.
+/// Makes a call, and returns the items of its answer. The call gets a buffer of `room` items, and a place for the number of items. If
+/// they don't fit, the call is repeated with a larger buffer.
 fn given<T: Copy + Default>(room: usize, call: impl Fn(*mut T, usize, *mut usize) -> u32) -> Result<Vec<T>> {
     let mut out = vec![T::default(); room];
     loop {
@@ -104,7 +105,7 @@ fn given<T: Copy + Default>(room: usize, call: impl Fn(*mut T, usize, *mut usize
     }
 }
 
-/// Whether a check is done.
+/// Returns the result of a check with a given status.
 fn held(status: u32) -> Result<()> {
     match status {
         0 => Ok(()),
@@ -112,7 +113,7 @@ fn held(status: u32) -> Result<()> {
     }
 }
 
-/// How many inputs and latches a file has, by its header line, which is a good one.
+/// Returns the numbers of inputs and latches of a file, from its header line, which has to be valid.
 fn counts(file: &[u8]) -> (usize, usize) {
     let line = file.split(|byte| *byte == b'\n').next().unwrap_or_default();
     let text = String::from_utf8_lossy(line);
@@ -120,7 +121,8 @@ fn counts(file: &[u8]) -> (usize, usize) {
     (words.next().unwrap_or_default(), words.next().unwrap_or_default())
 }
 
-/// The clauses of a file's query for step `k` as numbers, and their map. A file without bad state properties is refused.
+/// Returns the clauses of a file's query for step `k` as numbers, and the literals of inputs, latches and bad state properties. A file
+/// without bad state properties is refused.
 pub fn query_numbers(file: &[u8], k: u64, optimize: bool) -> Result<Clauses> {
     let (variables, clauses_len) = (Cell::new(0), Cell::new(0));
     let mut numbers = given(ROOM, |out, len, needed| unsafe {

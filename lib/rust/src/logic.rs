@@ -1,4 +1,4 @@
-//! Variables, literals, clauses and the three values, with the names of the crate logicrs, and what is needed of it.
+//! Variables, literals, clauses and the three values, with the names of the crate logicrs and those of its functions that are needed.
 
 use std::ops::{BitAnd, Not};
 
@@ -35,7 +35,7 @@ impl From<Var> for usize {
     }
 }
 
-/// A variable or its inverse, as one number: twice the variable's, and one more if it is inverted.
+/// A variable or its inverse, as one number: twice the number of the variable, plus 1 if it is inverted.
 #[derive(Debug, Clone, Copy, PartialEq, Eq, PartialOrd, Ord, Hash)]
 pub struct Lit(u32);
 
@@ -88,17 +88,17 @@ impl Lbool {
     /// Unknown.
     pub const NONE: Lbool = Lbool(2);
 
-    /// Returns the numbers that values have in aig.h.
+    /// Returns the numbers of values in aig.h.
     pub(crate) fn numbers(values: &[Lbool]) -> Vec<u8> {
         values.iter().map(|value| value.0).collect()
     }
 
-    /// Returns the values of numbers of aig.h.
+    /// Returns the values for numbers of aig.h.
     pub(crate) fn values(numbers: Vec<u8>) -> Vec<Lbool> {
         numbers.into_iter().map(Lbool).collect()
     }
 
-    /// Returns the inverse if `x` is true, and the value itself otherwise. What is unknown stays so.
+    /// Returns the inverse if `x` is true, and the value itself otherwise. The inverse of unknown is unknown.
     pub fn not_if(self, x: bool) -> Self {
         if x && self != Lbool::NONE { Lbool(1 - self.0) } else { self }
     }
@@ -144,7 +144,7 @@ pub struct LitVvec {
 }
 
 impl LitVvec {
-    /// Returns a list of no clauses.
+    /// Returns an empty list of clauses.
     pub fn new() -> Self {
         LitVvec::default()
     }
@@ -155,12 +155,12 @@ impl LitVvec {
         self.ends.push(self.literals.len());
     }
 
-    /// Returns how many clauses there are.
+    /// Returns the number of clauses.
     pub fn len(&self) -> usize {
         self.ends.len()
     }
 
-    /// Returns whether there are none.
+    /// Returns whether the list is empty.
     pub fn is_empty(&self) -> bool {
         self.ends.is_empty()
     }
@@ -172,15 +172,15 @@ impl LitVvec {
     }
 }
 
-/// Clauses in one list for each variable, which are numbered from 0. Variable 0 has the clause that it is false.
+/// A list of clauses for each variable. Variables are numbered from 0, and variable 0 has a clause which states that it is false.
 #[derive(Debug, Clone, PartialEq, Eq)]
 pub struct DagCnf {
     lists: Vec<LitVvec>,
 }
 
 impl DagCnf {
-    /// Returns the clauses of variables up to a number, of DIMACS numbers with a 0 behind each clause. A clause is given to the greatest of its
-    /// variables, which it defines.
+    /// Returns the clauses of the first variables, from DIMACS numbers with a 0 after each clause. A clause belongs to the greatest of
+    /// its variables, which it defines.
     pub(crate) fn of(variables: usize, numbers: &[i32]) -> Self {
         let mut lists = vec![LitVvec::new(); variables];
         for clause in numbers.split(|number| *number == 0).filter(|clause| !clause.is_empty()) {
@@ -191,17 +191,17 @@ impl DagCnf {
         DagCnf { lists }
     }
 
-    /// Returns how many variables there are.
+    /// Returns the number of variables.
     pub fn num_vars(&self) -> usize {
         self.lists.len()
     }
 
-    /// Returns how many clauses all lists have together.
+    /// Returns the number of clauses in all lists together.
     pub fn num_clauses(&self) -> usize {
         self.lists.iter().map(LitVvec::len).sum()
     }
 
-    /// Returns the clauses of a variable, of which there are none if it isn't there.
+    /// Returns the clauses of a variable, or an empty list if the variable doesn't exist.
     pub fn clauses_of(&self, var: Var) -> impl Iterator<Item = &[Lit]> {
         self.lists.get(usize::from(var)).into_iter().flat_map(LitVvec::iter)
     }
@@ -217,7 +217,7 @@ impl DagCnf {
 pub struct VarVMap(std::collections::HashMap<Var, Var>);
 
 impl VarVMap {
-    /// Returns a map of no variables.
+    /// Returns an empty map.
     pub fn new() -> Self {
         VarVMap::default()
     }
@@ -232,12 +232,12 @@ impl VarVMap {
         self.0.get(&k).copied()
     }
 
-    /// Returns how many variables are mapped.
+    /// Returns the number of variables that are mapped.
     pub fn len(&self) -> usize {
         self.0.len()
     }
 
-    /// Returns whether none is mapped.
+    /// Returns whether no variable is mapped.
     pub fn is_empty(&self) -> bool {
         self.0.is_empty()
     }

@@ -1,4 +1,4 @@
-//! Simulations in three values, with the names of the crate aig.
+//! Simulations with three values, with the names of the crate aig.
 
 use crate::circuit::{literal, Aig};
 use crate::edge::AigEdge;
@@ -23,18 +23,18 @@ impl<'a> TernarySimulate<'a> {
     ///
     /// # Panics
     ///
-    /// If there are more or fewer values than latches (`latchs`).
+    /// If the number of values isn't the number of latches (`latchs`).
     pub fn new(aig: &'a Aig, state: Vec<Lbool>) -> Self {
         let (made, state) = (Self::empty(), Lbool::numbers(&state));
         taken(aig.held().call_with(&made.held, |h, to| unsafe { calls::aig_simulation_new(h, state.as_ptr(), state.len(), to) }));
         made
     }
 
-    /// Values one step with these inputs, and moves the state to that which follows.
+    /// Simulates one step with the given inputs, and replaces the state by the next state.
     ///
     /// # Panics
     ///
-    /// If there are more or fewer values than inputs (`inputs`).
+    /// If the number of values isn't the number of inputs (`inputs`).
     pub fn simulate(&mut self, input: Vec<Lbool>) {
         let input = Lbool::numbers(&input);
         taken(self.held.call(|h| unsafe { calls::aig_simulation_simulate(h, input.as_ptr(), input.len()) }))
@@ -44,13 +44,13 @@ impl<'a> TernarySimulate<'a> {
     ///
     /// # Panics
     ///
-    /// If no step was valued, or the edge isn't one of the circuit (`has_value`).
+    /// If no step was simulated, or the edge doesn't belong to the circuit (`has_value`).
     pub fn value(&self, e: AigEdge) -> Lbool {
         let value = self.held.tell(|h, value| unsafe { calls::aig_simulation_value(h, literal(e), value) });
         Lbool::values(vec![taken(value)])[0]
     }
 
-    /// Returns whether a step was valued and the edge is of the circuit.
+    /// Returns whether a step was simulated and the edge belongs to the circuit.
     pub fn has_value(&self, e: AigEdge) -> bool {
         e.node_id() < 1 << 31
             && taken(self.held.tell(|h, answer| unsafe { calls::aig_simulation_has_value(h, literal(e), answer) }))
@@ -61,11 +61,11 @@ impl<'a> TernarySimulate<'a> {
         Lbool::values(taken(self.held.list(1024, |h, out, len, needed| unsafe { calls::aig_simulation_state(h, out, len, needed) })))
     }
 
-    /// Values steps with these inputs, one after another, and returns the value of an edge in each.
+    /// Simulates a step for each list of inputs, and returns the value of an edge in each step.
     ///
     /// # Panics
     ///
-    /// If there are more or fewer values than inputs in one of the lists, or the edge isn't one of the circuit.
+    /// If the number of values in a list isn't the number of inputs, or the edge doesn't belong to the circuit.
     pub fn simulate_all(&mut self, inputs: &[Vec<Lbool>], e: AigEdge) -> Vec<Lbool> {
         let width = inputs.first().map_or(0, Vec::len);
         assert!(inputs.iter().all(|input| input.len() == width), "each step has the same number of inputs");
