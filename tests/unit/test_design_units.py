@@ -40,6 +40,9 @@ from aigprove.designs.yosys import LONGEST, Yosys
 from aigprove.options.options import DesignOptions, Reset
 from aigprove.processes.scheduler import Stopped
 
+MULTICLOCK = (
+    "--multiclock takes any, and a step is then a moment in which inputs and clocks may change"
+)
 FOLDER = re.compile(r"/proc/self/fd/\d+")
 
 
@@ -806,7 +809,7 @@ def test_copies(checks: Checks, folder: pathlib.Path) -> None:
     ]
     with set_path(folder, []):
         checks.wants(
-            "no yosys", "yosys is not installed, which makes a file of a design",
+            "no yosys", "yosys is not installed; it is needed to read designs",
             refused(a_yosys, folder, None),
         )
     yosys, _ = a_yosys(folder, None, files)
@@ -955,7 +958,7 @@ def test_runs(checks: Checks, folder: pathlib.Path) -> None:
     other, _ = a_yosys(folder, lambda *_: "Warning: here\n")
     other.run("")
     checks.wants("it warns", [f"{folder}/t.v: yosys warns: here"], other.warnings)
-    late = f"{folder}/t.v: yosys was still at it when the time was over"
+    late = f"{folder}/t.v: timed out while yosys was still reading the design"
     other, task = a_yosys(folder, lambda *_: "", deadline=time.monotonic() - 1)
     checks.wants("late", (late, []), (refused(other.run, ""), task.scripts))
     other, task = a_yosys(folder, lambda *_: ("", None, True))
@@ -1243,14 +1246,14 @@ def test_one_reading(checks: Checks, folder: pathlib.Path) -> None:
 def test_refusals(checks: Checks, folder: pathlib.Path) -> None:
     """Designs that are refused."""
     for options, answer, why in [
-        ({"top": "1top"}, ONE, "1top is no name of a module"),
+        ({"top": "1top"}, ONE, "1top isn't a name of a module"),
         ({}, "", "{}/t.v has no module"),
         (
             {},
             asserting("\\top", attributes=()),
             "{}/t.v has no module that isn't empty or a black box",
         ),
-        ({"black_box": ("none",)}, ONE, "none is no module of the design"),
+        ({"black_box": ("none",)}, ONE, "the design has no module none"),
         ({}, ONE + asserting("\\box", attributes=("blackbox 1",)), None),
         (
             {},
@@ -1347,7 +1350,7 @@ def test_refusals(checks: Checks, folder: pathlib.Path) -> None:
         reader.read(deadline=time.monotonic() - 1)
     except TranslationTimeout as why:
         checks.wants(
-            "late", f"{folder}/t.v: yosys was still at it when the time was over", str(why)
+            "late", f"{folder}/t.v: timed out while yosys was still reading the design", str(why)
         )
 
 
@@ -2223,19 +2226,20 @@ def test_bad_designs(checks: Checks, folder: pathlib.Path) -> None:
     ports = {**PORTS, "rst": {"direction": "output", "bits": [3]}}
     wide = {**PORTS, "rst": {"direction": "input", "bits": [3, 9]}}
     reset = Reset("rst", 1, 1)
-    why = "top has no input {} of one bit that could be a reset"
+    why = "module top has no one-bit input named {}"
+    clock = "module top: clk is the clock, and can't be the reset"
     for module, drawn, options, wanted in [
         (with_cells(), {**with_cells(), "ports": ports}, {"reset": reset}, why.format("rst")),
         (with_cells(), {**with_cells(), "ports": wide}, {"reset": reset}, why.format("rst")),
         (with_cells(), None, {"reset": Reset("none", 1, 1)}, why.format("none")),
-        (with_cells(), None, {"reset": Reset("clk", 1, 1)}, why.format("clk")),
+        (with_cells(), None, {"reset": Reset("clk", 1, 1)}, clock),
         ({**with_cells(), "ports": ports}, with_cells(), {"reset": reset}, why.format("rst")),
         (with_cells(), None, {"reset": reset}, None),
         (
             with_cells(),
             {**with_cells(), "netnames": {**NETS, "t": net("z")}},
             {},
-            "top: t is z at times, and tristate is not taken",
+            "top: t can be z; tri-state nets are not supported",
         ),
         (
             with_cells(
@@ -2245,7 +2249,7 @@ def test_bad_designs(checks: Checks, folder: pathlib.Path) -> None:
             {},
             (
                 "top has several clocks, and one "
-                f"is taken: clk (falling) and clk (rising) ({netlist.MANY})"
+                f"is taken: clk (falling) and clk (rising) ({MULTICLOCK})"
             ),
         ),
     ]:
@@ -2277,7 +2281,7 @@ def test_bad_designs(checks: Checks, folder: pathlib.Path) -> None:
         make(place, script), maker.put(place, free_json={"1x": maker.module}),
     )[0]
     maker.later = maker.make
-    checks.wants("the top", "1x is no name of a module", refused(maker.design))
+    checks.wants("the top", "1x isn't a name of a module", refused(maker.design))
     empty = Maker(folder)
     empty.later = lambda place, script: (
         empty.make(place, script),

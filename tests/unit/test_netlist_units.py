@@ -21,6 +21,9 @@ from aigprove.designs.registers import widened
 from aigprove.designs.rtlil import Statement, modules_of, parse, write
 from aigprove.designs.texts import Text, bound, expanded, moved
 
+MULTICLOCK = (
+    "--multiclock takes any, and a step is then a moment in which inputs and clocks may change"
+)
 HEAD = '\nattribute \\src "t.v:1.1-9.10"\nmodule \\top\n  wire width 2 \\y\n'
 # A part of a module, and what stands there once each x is free: wires of so many bits, and the
 # part.
@@ -936,7 +939,7 @@ def test_netlists(checks: Checks) -> None:
             "top: y has several drivers",
         ),
         ([cell("$not", A=[2], Y=["0"])], "top: a constant has several drivers"),
-        ([cell("$not", A=["z"], Y=[4])], "top: y is z at times, and tristate is not taken"),
+        ([cell("$not", A=["z"], Y=[4])], "top: y can be z; tri-state nets are not supported"),
         ([cell("$not", A=[3], Y=[2]), cell("$not", A=[2], Y=[4])], "top: a has several drivers"),
     ]
     drivers += [
@@ -953,7 +956,7 @@ def test_netlists(checks: Checks) -> None:
         ),
         (
             [{**cell("$assert", A=["z"]), "port_directions": {"A": "input"}}],
-            "top: a constant is z at times, and tristate is not taken",
+            "top: a constant can be z; tri-state nets are not supported",
         ),
         # Names that yosys made: one with a place, one on which y depends, and one on which nothing
         # does that the design names.
@@ -1035,7 +1038,7 @@ def test_netlists(checks: Checks) -> None:
     z = {**nets, "t": net(8, "z")}
     checks.wants(
         "a net",
-        "top: t is z at times, and tristate is not taken",
+        "top: t can be z; tri-state nets are not supported",
         is_refused(netlist.check_drivers, "top", module(z, [], ["a"])),
     )
     output = {
@@ -1086,19 +1089,16 @@ def test_netlists(checks: Checks) -> None:
         ([register, cell("$not", A=[5], Y=[4])], "reads its clock clk"),
         (
             [cell("$dff", CLK=[4], D=[2], Q=[6])],
-            f"top makes its clock itself, and one that is an input is taken: y ({netlist.MANY})",
+            f"top generates its clock itself; the clock has to be an input: y ({MULTICLOCK})",
         ),
-        ([cell("$dff", CLK=[7], D=[2], Q=[6])], f"taken: {PLACED} ("),
-        ([cell("$dff", CLK=[8], D=[2], Q=[6])], "taken: what q depends on ("),
+        ([cell("$dff", CLK=[7], D=[2], Q=[6])], f"has to be an input: {PLACED} ("),
+        ([cell("$dff", CLK=[8], D=[2], Q=[6])], "has to be an input: what q depends on ("),
         (
             [cell("$dff", CLK=[7], D=[2], Q=[6]), register],
             f"top has several clocks, and one is taken: {PLACED} (rising) and clk (rising)",
         ),
     ]
-    many = (
-        "top has several clocks, and one is taken: clk (falling) and clk (rising) (--multiclock"
-        " takes any, and a step is then a moment in which inputs and clocks may change)"
-    )
+    many = f"top has several clocks, and one is taken: clk (falling) and clk (rising) ({MULTICLOCK})"
     checks.wants(
         "both edges",
         many,
@@ -1119,7 +1119,7 @@ def test_netlists(checks: Checks) -> None:
         )
     checks.wants(
         "a constant",
-        "top makes its clock itself, and one that is an input is taken: a constant",
+        "top generates its clock itself; the clock has to be an input: a constant",
         str(
             is_refused(
                 netlist.clock_of,

@@ -8,6 +8,8 @@ import re
 from collections.abc import Callable, Iterable, Iterator, Mapping, Sequence
 from typing import Any, cast
 
+from aigprove.data import message
+
 KINDS = {"i": "inputs", "l": "latches", "o": "outputs", "b": "bads", "c": "constraints"}
 LIMIT = 1 << 24
 # How many lines of numbers are read at once.
@@ -29,7 +31,7 @@ def decimal(digits: bytes) -> int:
     enough for any that a file has."""
     spelled = digits.lstrip(b"0")
     if len(spelled) > 10:
-        raise Fault("a number has more than ten digits")
+        raise Fault(message("many_digits"))
     return int(spelled or b"0")
 
 
@@ -57,7 +59,7 @@ class Lines:
         """Returns the next line, without its line feed."""
         end = self.data.find(b"\n", self.place)
         if end < 0:
-            raise Fault(f"{self.what} ends too early")
+            raise Fault(message("ends_early", what=self.what))
         line = self.data[self.place:end]
         self.place = end + 1
         return line
@@ -66,14 +68,14 @@ class Lines:
         """Skips a number of lines."""
         *lines, rest = self.data[self.place:].split(b"\n", count)
         if len(lines) < count:
-            raise Fault(f"{self.what} ends too early")
+            raise Fault(message("ends_early", what=self.what))
         self.place = len(self.data) - len(rest)
 
     def numbers(self, least: int, most: int) -> list[int]:
         """Returns a line with a given count of numbers."""
         words = self.line().split(b" ")
         if not least <= len(words) <= most or not all(word.isdigit() for word in words):
-            raise Fault(f"{self.what} has a bad line of numbers")
+            raise Fault(message("bad_numbers", what=self.what))
         return [decimal(word) for word in words]
 
     def number(self) -> int:
@@ -112,7 +114,7 @@ class Lines:
         while count:
             groups = self.data[self.place:self.place + count]
             if not groups:
-                raise Fault(f"{self.what} ends too early")
+                raise Fault(message("ends_early", what=self.what))
             self.place += len(groups)
             count -= len(groups.translate(None, GOES_ON))
 
@@ -129,9 +131,9 @@ class Lines:
                 self.place += size
                 return found
             if shift == 35:
-                raise Fault(f"bad difference in {self.what}")
+                raise Fault(message("bad_difference", what=self.what))
         if count:
-            raise Fault(f"{self.what} ends too early")
+            raise Fault(message("ends_early", what=self.what))
         return found
 
 
@@ -140,9 +142,9 @@ class Header:
 
     def __init__(self, lines: Lines) -> None:
         form, *words = lines.line().split(b" ")
-        if form not in (b"aag", b"aig") or not 5 <= len(words) <= 9 or not all(word.isdigit()
-                                                                               for word in words):
-            raise Fault(f"bad header line in {lines.what}")
+        are_numbers = 5 <= len(words) <= 9 and all(word.isdigit() for word in words)
+        if form not in (b"aag", b"aig") or not are_numbers:
+            raise Fault(message("bad_header", what=lines.what))
         self.is_text = form == b"aag"
         # Before version 1.9 a file had no bad state properties, and its outputs were taken for
         # them.
@@ -181,7 +183,7 @@ class Circuit:
         self.what = lines.what
         header = self.header = Header(lines)
         if max(header.counts) >= limit:
-            raise Fault(f"{lines.what} is too large")
+            raise Fault(message("too_large", what=lines.what))
         first_latch = 2 * (header.inputs + 1)
         first_gate = first_latch + 2 * header.latches
         if header.is_text:
@@ -210,12 +212,12 @@ class Circuit:
         defined = [*self.inputs, *self.latches, *(gate for gate, _, _ in self.gates)]
         known = {0, *defined}
         if len(known) <= len(defined) or any(literal & 1 for literal in defined):
-            raise Fault(f"bad literal of an input, latch or gate in {self.what}")
+            raise Fault(message("bad_definition", what=self.what))
         used = [*self.nexts, *self.outputs, *self.bads,
                 *self.constraints, *itertools.chain.from_iterable(row[1:] for row in self.gates)]
         unknown = next((literal for literal in used if literal & ~1 not in known), None)
         if unknown is not None:
-            raise Fault(f"literal {unknown} is not defined in {self.what}")
+            raise Fault(message("not_defined", literal=unknown, what=self.what))
 
     def put_in_order(self) -> None:
         """Puts each gate behind its operands, unless it is there already."""
@@ -234,7 +236,8 @@ class Circuit:
         try:
             self.gates = [gates[literal] for literal in TopologicalSorter(below).static_order()]
         except CycleError as why:
-            raise Fault(f"gate {max(why.args[1])} stands on itself in {self.what}") from None
+            gate = max(why.args[1])
+            raise Fault(message("cyclic_gate", literal=gate, what=self.what)) from None
 
     def opened(self) -> list[int]:
         """Returns the places of the latches that are uninitialised."""
@@ -312,7 +315,7 @@ def binary_gates(lines: Lines, count: int, first: int) -> list[Gate]:
     gates = [(gate, gate - one, gate - one - two)
              for gate, one, two in zip(itertools.count(first, 2), numbers[::2], numbers[1::2])]
     if any(right < 0 for *_, right in gates):
-        raise Fault(f"bad difference in {lines.what}")
+        raise Fault(message("bad_difference", what=lines.what))
     return gates
 
 
@@ -323,7 +326,7 @@ def names(lines: Lines) -> Names:
     while not lines.is_read() and not COMMENT.match(lines.data, lines.place):
         symbol = re.fullmatch(rb"([ilobcjf])([0-9]+) (.*)", lines.line(), re.DOTALL)
         if symbol is None:
-            raise Fault(f"bad line of a name in {lines.what}")
+            raise Fault(message("bad_name", what=lines.what))
         found[symbol[1].decode(), decimal(symbol[2])] = symbol[3]
     return found
 

@@ -11,6 +11,7 @@ import re
 from collections.abc import Mapping, Sequence
 
 from aigprove.circuits.aiger import Circuit, Fault, Gates, binary, decoded, literals_of, text_form
+from aigprove.data import message
 
 # A value of ABC's counterexample: the name of an input or latch, the step and the value.
 NAMED = re.compile(r"(.+)@([0-9]{1,9})=([01])", re.DOTALL)
@@ -45,7 +46,7 @@ class Named:
         A name that is missing at some step has the value 0."""
         # There is a line for each name and step.
         if self.length > LONGEST or self.length * len(names) > 2 * len(self.values):
-            raise Fault("its counterexample has too many steps")
+            raise Fault(message("long_counterexample"))
         return ["".join(self.values.get((t, name), "0") for name in names)
                 for t in range(self.length)]
 

@@ -6,6 +6,7 @@ from collections.abc import Sequence
 from typing import NamedTuple
 
 from aigprove.circuits.aiger import Fault, Header, Lines
+from aigprove.data import message
 
 
 class Witness(NamedTuple):
@@ -49,7 +50,7 @@ def lasso_of(data: bytes, latches: int) -> Witness:
 def values_of(line: bytes, count: int, what: str) -> str:
     """Returns the values of a line, one for each latch or input."""
     if len(line) != count or line.strip(b"01x"):
-        raise Fault(f"{what} is no value for each of {count}")
+        raise Fault(message("bad_values", what=what, count=count))
     return line.decode()
 
 
@@ -65,18 +66,18 @@ def read(lines: Lines, latches: int, inputs: int, letter: str = "b") -> Witness:
     property of this kind."""
     skip_comments(lines)
     if lines.is_read():
-        raise Fault("WITNESS has no such witness")
+        raise Fault(message("no_witness"))
     if lines.line() != b"1":
-        raise Fault("no status line 1 in WITNESS")
+        raise Fault(message("no_status"))
     bad = lines.line()
     if not re.fullmatch(rb"%s[0-9]{1,1000}" % letter.encode(), bad):
-        raise Fault("bad property line in WITNESS")
+        raise Fault(message("bad_property_line"))
     start = values_of(lines.line(), latches, "the state")
     steps: list[str] = []
     while (line := lines.line()) != b".":
         steps.append(values_of(line, inputs, f"step {len(steps)}"))
     if not steps:
-        raise Fault("no step in WITNESS")
+        raise Fault(message("no_step"))
     return Witness(int(bad[1:]), start, steps, letter)
 
 

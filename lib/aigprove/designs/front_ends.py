@@ -2,6 +2,7 @@
 from typing import NamedTuple
 
 from aigprove.circuits.aiger import Fault
+from aigprove.data import message
 
 # By the end of a file's name: what reads it, with the words for what is Verilog. The latches of
 # BLIF have one clock.
@@ -46,7 +47,7 @@ class TranslationTimeout(Fault):
 
 def overdue(path: str) -> TranslationTimeout:
     """Returns the fault of a design that wasn't read in time."""
-    return TranslationTimeout(f"{path}: yosys was still at it when the time was over")
+    return TranslationTimeout(message("timed_out", path=path))
 
 
 class File(NamedTuple):

@@ -8,6 +8,7 @@ from collections.abc import Iterator, Mapping, Sequence
 from typing import Any, NamedTuple
 
 from aigprove.circuits.aiger import Fault
+from aigprove.data import message
 from aigprove.designs.rtlil import Part, Signal, Statement, constant, modules_of, spelled
 
 # What an assertion, an assumption or a write that isn't enabled says, and whether it is enabled.
@@ -182,8 +183,8 @@ def check_names(modules: Mapping[str, Statement], passed: str = "") -> None:
                 # What an interface has is declared by paths.
                 is_path = other and INTERFACE not in other.attributes
                 if is_path and other and f"\\{own[end + 1:]}" in begins_of(other):
-                    raise Fault(f"{base_of(name)} has a net of the name {own[1:]}, and an instance "
-                                f"{own[1:end]} with {own[end + 1:]}: rename one of them")
+                    raise Fault(message("ambiguous_name", module=base_of(name), name=own[1:],
+                                        cell=own[1:end], inner=own[end + 1:]))
 
 
 def begins_of(module: Statement) -> set[str]:
@@ -205,8 +206,7 @@ def check_constants(modules: Mapping[str, Statement]) -> None:
             # What only initial blocks write and nothing reads may be the variable of loops.
             uses = sum(it.words().count(net) for it in module.all())
             if uses > 1 + sum(net in {part.name for part in target} for target, _ in given):
-                raise Fault(f"{base_of(name)}: {net[1:]} has several drivers, or several initial "
-                            "values")
+                raise Fault(message("several_values", module=base_of(name), net=net[1:]))
 
 
 def width_of(wire: Statement) -> int:

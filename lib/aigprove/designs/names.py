@@ -14,6 +14,7 @@ from collections.abc import Iterator, Mapping, Sequence
 from typing import NamedTuple
 
 from aigprove.circuits.aiger import Fault, encoded
+from aigprove.data import message
 from aigprove.designs.front_ends import DECLARED, DECLARED_LATER
 from aigprove.designs.modules import (INTERFACE, JOINED, check_names, dots_in, source_of,
                                       width_of)
@@ -35,10 +36,6 @@ OUTPUTS = {f"\\{port}" for port in ["Y", "Q", "X", "CO", "LO", "O", "DATA", "RD_
 INDEX = re.compile(r"(.*)\[[0-9]+\]")
 # Attributes of a net that yosys may drop where it joins the net with another.
 HARMLESS = re.compile(r"\\(src|wiretype|enum_\w+|hdlname|hierconn|aigprove_unknown)")
-ABOVE = "a name is read if its path goes down from the module in which it stands, " \
-    "through instances and named blocks, to a net or variable"
-LATER = "its block is read later: use it behind the block"
-UNKNOWN_NAME = "declare it, or correct its spelling"
 
 
 class Shape(NamedTuple):
@@ -196,14 +193,13 @@ class Trees:
         declare it, outside of what is generated."""
         uses = self.uses[module, name]
         if not any(use.is_declaring for use in uses):
-            raise Fault(UNKNOWN_NAME)
+            raise Fault(message("unknown_name"))
         if (module, name) in self.selected:
-            raise Fault("an implicit net has one bit: declare it with its range")
+            raise Fault(message("implicit_range"))
         if not uses[0].is_declaring:
-            raise Fault("it is used before the port that makes it an implicit net: declare it")
+            raise Fault(message("used_before"))
         if uses[0].is_local:
-            raise Fault("yosys takes an implicit net of a block for one of the module: "
-                        "declare it in the block")
+            raise Fault(message("implicit_in_block"))
 
 
 def ends_with_0(bounds: Node) -> bool:
@@ -261,23 +257,22 @@ class Hierarchy:
         last = cell.rpartition(".")[2]
         found = INDEX.fullmatch(last)
         if found and (source_of(kind), found[1]) in self.trees.arrays:
-            raise Fault(f"{cell} is of an array of instances whose last index isn't 0, "
-                        "and yosys numbers them from 0: write it as [N:0]")
+            raise Fault(message("array", cell=cell))
 
     def signal(self, kind: str, path: str) -> Shape:
         """Returns the net that a path down from a module is: its shape."""
         found = list(self.found(kind, path))
-        if len(found) != 1:
-            raise Fault(f"it may be {len(found)} signals" if found else f"it isn't found: {ABOVE}")
+        if not found:
+            raise Fault(message("not_found", rule=message("below")))
+        if len(found) > 1:
+            raise Fault(message("several_signals", count=len(found)))
         (owner, name), = found
         module = self.modules[owner]
         if name in module.others:
-            raise Fault(f"it is a {module.others[name]} of {source_of(owner)}, "
-                        "and nets and variables are read: let a net have its value")
+            raise Fault(message("not_net", kind=module.others[name], module=source_of(owner)))
         net = module.nets[name]
         if lost := sorted(it for it in net.attributes if not HARMLESS.fullmatch(it)):
-            raise Fault(f"yosys would drop its attribute {lost[0][1:]}: "
-                        "let a net without one have its value")
+            raise Fault(message("attribute", name=lost[0][1:]))
         return net.shape
 
 
@@ -309,8 +304,8 @@ class Names:
 
     def fault(self, net: Net, why: object) -> Fault:
         """Returns the fault that a name isn't declared, or can't be read if it is a path."""
-        what = "can't be read" if "." in net.name else "isn't declared"
-        return Fault(self.yosys.told(f"{net.place}: {net.name[1:]} {what}: {why}"))
+        kind = "not_read" if "." in net.name else "not_declared"
+        return Fault(self.yosys.told(message(kind, place=net.place, name=net.name[1:], why=why)))
 
     def declare(self, hierarchy: Hierarchy, kind: str, net: Net) -> None:
         """Declares what a net of a module of this kind stands for."""
@@ -328,21 +323,19 @@ class Names:
         except Fault as why:
             raise self.fault(net, why) from None
         if self.declared[base].setdefault(f"\\{own}", line) != line:
-            raise self.fault(net, f"in instances of {base} it has different ranges or signs: "
-                             "let each have a module of its own")
+            raise self.fault(net, message("different_shapes", module=base))
         self.known[base, f"\\{own}"] = net
 
     def check_net(self, base: str, net: Net) -> None:
         """Refuses a name that is no implicit net of Verilog."""
         if net.name.startswith("\\$"):
-            raise self.fault(net, "yosys has no such system function; "
-                             "a net without a driver has any value in each step")
+            raise self.fault(net, message("system_function"))
         try:
             self.trees.check_net(base, net.name)
         except Fault as why:
             raise self.fault(net, why) from None
         if base in self.forbidding:
-            raise self.fault(net, "`default_nettype none forbids implicit nets")
+            raise self.fault(net, message("nettype_none"))
 
     def unknown(self, said: str) -> Fault | None:
         """Returns the fault that a name isn't declared, where yosys says so of one that it hadn't
@@ -352,8 +345,9 @@ class Names:
             return None
         place, name = found.groups()
         is_later = any(it.text.endswith(name) for it in self.design.all())
-        why = LATER if is_later else ABOVE if "." in name else UNKNOWN_NAME
-        return self.fault(Net(name, Shape(1, 0, False, False), False, place, frozenset()), why)
+        why = "later_block" if is_later else "below" if "." in name else "unknown_name"
+        net = Net(name, Shape(1, 0, False, False), False, place, frozenset())
+        return self.fault(net, message(why))
 
     def declaring(self) -> dict[str, bytes]:
         """Returns the texts of the Verilog files with these declarations."""
@@ -369,8 +363,7 @@ class Names:
         for kind, module in hierarchy.modules.items():
             for net in hierarchy.implicit(kind):
                 if net.name not in self.declared[source_of(kind)] or "." in net.name:
-                    raise self.fault(net, "where a script of yosys reads it, or a module has "
-                                     "interfaces, it has to be declared")
+                    raise self.fault(net, message("in_script"))
             for net in [it for it in module.nets.values() if MADE & it.attributes]:
                 if module.is_used(net.name):
                     self.check(hierarchy, kind, net)
@@ -388,6 +381,6 @@ class Names:
         except Fault as why:
             raise self.fault(first, why) from None
         if not is_same:
-            raise self.fault(first, "what it is depends on what it is taken for")
+            raise self.fault(first, message("ambiguous"))
         if net.name in hierarchy.modules[kind].driven(hierarchy.modules):
-            raise self.fault(first, "it is written, and names in other modules are only read")
+            raise self.fault(first, message("written"))

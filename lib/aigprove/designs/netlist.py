@@ -5,6 +5,7 @@ from collections.abc import Iterator, Mapping
 from typing import Any
 
 from aigprove.circuits.aiger import Fault
+from aigprove.data import message
 from aigprove.designs.internal import COMPUTED
 
 # What a file of yosys's in JSON has; a bit of a net there: a number, or 0, 1, x or z; and a clock,
@@ -16,7 +17,7 @@ Clock = tuple[str, bool]
 CLOCKS = {"CLK", "RD_CLK", "WR_CLK"}
 # Cells that hold a value.
 HOLDING = re.compile(r"ff|latch|sr$|_sr_|mem|any", re.IGNORECASE)
-MANY = "--multiclock takes any, and a step is then a moment in which inputs and clocks may change"
+
 # What is behind the name of what a register holds; and the index of a bit.
 STORED, INDEX = ".stored", re.compile(r"(\[[0-9]+\])?$")
 PART = re.compile(r"(.+)\$\[([0-9]+):([0-9]+)\]")
@@ -159,14 +160,14 @@ def check_drivers(top: str, module: Json) -> None:
                  if any("z" in bits for bits in cell["connections"].values())]
     for name in open_bits + [name
                              for name, net in module["netnames"].items() if "z" in net["bits"]]:
-        raise Fault(f"{top}: {name} is z at times, and tristate is not taken")
+        raise Fault(message("tristate", top=top, net=name))
     inputs = [bit for port in module["ports"].values() if port["direction"] == "input"
               for bit in port["bits"]]
     read = needed(module)
     for bit in inputs + [bit for cell in valued for bit in outputs(cell)]:
         # One on which nothing depends may be the variable of loops.
         if isinstance(bit, str) or bit in driven and bit in read:
-            raise Fault(f"{top}: {spelled(module, bit)} has several drivers")
+            raise Fault(message("several_drivers", top=top, net=spelled(module, bit)))
         driven.add(bit)
 
 
@@ -184,20 +185,19 @@ def clock_of(top: str, module: Json) -> Clock | None:
                 clocks.update(((names.get(bit, str(bit)), "1" in edge), bit) for bit in bits)
             elif cell["port_directions"].get(port) != "output":
                 read.update(names.get(bit) for bit in bits)
+    hint = message("multiclock")
     if len(clocks) > 1:
         shown = " and ".join(
             f"{spelled(module, clocks[clock])} ({'rising' if clock[1] else 'falling'})"
             for clock in sorted(clocks))
-        raise Fault(f"{top} has several clocks, and one is taken: {shown} ({MANY})")
+        raise Fault(message("several_clocks", top=top, clocks=shown, hint=hint))
     for (clock, _), bit in clocks.items():
         if clock in read:
-            raise Fault(f"{top} reads its clock {clock} as a value too ({MANY})")
+            raise Fault(message("clock_as_value", top=top, clock=clock, hint=hint))
         if module["ports"].get(clock, {"direction": ""})["direction"] != "input":
-            raise Fault(f"{top} makes its clock itself, and one that is an input is taken: "
-                        f"{spelled(module, bit)} ({MANY})")
+            raise Fault(message("own_clock", top=top, clock=spelled(module, bit), hint=hint))
         if clock.endswith(";"):
-            raise Fault(
-                f"{top} has the clock {clock}, and in a script of yosys a name can't end so")
+            raise Fault(message("clock_name", top=top, clock=clock))
     return next(iter(clocks), None)
 
 

@@ -9,6 +9,7 @@ from collections.abc import Iterable, Iterator, Sequence
 from typing import NamedTuple
 
 from aigprove.circuits.aiger import Fault
+from aigprove.data import message
 from aigprove.designs.statements import closing
 
 CLOCK = re.compile(rb"\s*@\s*\(\s*((?:pos|neg)edge\s+(?:\\\S+\s|[\w$.]+))\s*\)")
@@ -24,12 +25,6 @@ OPERATOR = re.compile(
 IMPLYING = {b"|->": 0, b"|=>": 1}
 # How many edges later an attempt ends at most.
 LONGEST = 4096
-CLOCKLESS = "a property has to begin with one edge of one clock, as @(posedge clk)"
-UNREAD = "{} isn't read in a property: write it with |->, |=>, ##N and expressions, " \
-    "or as registers and an assertion in a block"
-ONE_IMPLIES = "a property has one |-> or |=>: write several properties"
-COVERED = "cover property takes a sequence: write a ##1 b in place of a |=> b"
-TOO_LONG = f"a property goes on for at most {LONGEST} edges"
 
 
 class Item(NamedTuple):
@@ -86,7 +81,7 @@ def sequence(words: bytes, edge: int, is_wanted: bool) -> Iterator[Item]:
     for _, place in parts_of(words):
         delay = DELAY.match(words, place)
         if not delay:
-            raise Fault(UNREAD.format("## with anything but a number"))
+            raise Fault(message("no_property", what=message("delay_range")))
         if words[last:place].strip() or last:
             yield item(words[last:place], edge, is_wanted)
         edge, last = edge + int(delay[1]), delay.end()
@@ -96,11 +91,11 @@ def sequence(words: bytes, edge: int, is_wanted: bool) -> Iterator[Item]:
 def item(words: bytes, edge: int, is_wanted: bool) -> Item:
     """Returns an item, whose text has to be an expression."""
     if edge > LONGEST:
-        raise Fault(TOO_LONG)
+        raise Fault(message("long_property", most=LONGEST))
     if found := OPERATOR.search(words):
-        raise Fault(UNREAD.format(found[0].decode()))
+        raise Fault(message("no_property", what=found[0].decode()))
     if not words.strip():
-        raise Fault("an expression of a property is missing")
+        raise Fault(message("no_expression"))
     return Item(edge, words.strip(), is_wanted)
 
 
@@ -108,7 +103,7 @@ def parsed(words: bytes) -> Property:
     """Returns the property that a text says, whose comments are blanked."""
     clock = CLOCK.match(words)
     if not clock:
-        raise Fault(CLOCKLESS)
+        raise Fault(message("no_clock"))
     place, disable = clock.end(), b""
     if found := DISABLE.match(words, place):
         place = closing(words, found.end())
@@ -116,7 +111,7 @@ def parsed(words: bytes) -> Property:
     body = plain(words[place:])
     signs = [(sign, at) for sign, at in parts_of(body) if sign in IMPLYING]
     if len(signs) > 1:
-        raise Fault(ONE_IMPLIES)
+        raise Fault(message("two_implications"))
     given: list[Item] = []
     edge, wanted = 0, body
     for sign, at in signs:

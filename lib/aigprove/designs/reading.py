@@ -7,6 +7,7 @@ from collections.abc import Container, Iterable, Iterator, Mapping, Sequence
 
 from aigprove import data
 from aigprove.circuits.aiger import Fault
+from aigprove.data import message
 from aigprove.designs import modules, scripts
 from aigprove.designs.front_ends import (AGAIN, ASSERT, COVER, DECLARED, EXPANDING, FAIR, FRONTS,
                                          LIVE, LOOKING, STRICT, VERILOG, File, TranslationTimeout,
@@ -52,7 +53,7 @@ class ReadDesign:
     def __init__(self, files: Sequence[File],
                  options: DesignOptions, folder: str, task: Task) -> None:
         if options.top and not WORD.fullmatch(options.top):
-            raise Fault(f"{options.top} is no name of a module")
+            raise Fault(message("not_module", name=options.top))
         self.files, self.options, self.reset = files, options, options.reset
         self.yosys = Yosys(files, folder, task, options.deadline)
         self.yosys.put("defines.v",
@@ -98,7 +99,7 @@ class ReadDesign:
             # Yosys sets parameters of a top module that is named.
             self.read_on()
             every, below = self.read_below(f"-top {self.top}{self.parameters()}")
-        lines = [("", f"{name} is a top module too, and not asked about") for name in others]
+        lines = [("", message("other_top", name=name)) for name in others]
         return lines + [line for cell in every
                         for line in self.passed_over(cell, cell.module[1:] in below)]
 
@@ -135,7 +136,7 @@ class ReadDesign:
             hints = (hint for said, hint in HINTS.items() if said in told)
             raise type(why)("; ".join([told, *hints])) from None
         if place := modules.item_of_x(design):
-            raise Fault(f"{self.yosys.told(place)}: an item of this case is x or z")
+            raise Fault(message("x_item", place=self.yosys.told(place)))
         found, types = modules_of(design), types_of(design)
         modules.check_constants(found)
         below = {base_of(name) for name in found}
@@ -146,10 +147,10 @@ class ReadDesign:
             or any(kind.startswith(scripts.MEMORY) for kind in types)
         self.memories = (scripts.MEMORIES if has_memories else "{edges}").format(edges=self.edges())
         if not below:
-            raise Fault(f"{self.yosys.path} has no module")
+            raise Fault(message("no_module", path=self.yosys.path))
         self.top = next((base_of(name) for name, own in found.items() if TOP in own.attributes), "")
         if not self.top:
-            raise Fault(f"{self.yosys.path} has no module that isn't empty or a black box")
+            raise Fault(message("empty_modules", path=self.yosys.path))
         self.free_boxes(found, types)
         for module in found.values():
             modules.renamed(module)
@@ -279,7 +280,7 @@ class ReadDesign:
         self.noticed = []
         for text in texts:
             text.check(nets)
-            self.noticed += [self.yosys.told(f"{text.place(offset)}: {why}")
+            self.noticed += [self.yosys.told(str(text.fault(offset, why)))
                              for offset, why in itertools.islice(lacking(text, nets), NOTICED)]
         return found
 
@@ -312,8 +313,8 @@ class ReadDesign:
         known = [it.name[1:] for it in module.of("parameter")] if module else []
         for name, _ in self.options.parameter:
             if name not in known:
-                raise Fault(f"{self.top} has no parameter {name}"
-                            + (f", but {', '.join(known)}" if known else ""))
+                kind = "other_parameters" if known else "no_parameter"
+                raise Fault(message(kind, top=self.top, name=name, known=", ".join(known)))
         return "".join(f" -chparam {name} {value}" for name, value in self.options.parameter)
 
     def free_boxes(self, found: Mapping[str, Statement], types: Container[str]) -> None:
@@ -322,14 +323,12 @@ class ReadDesign:
         known = set(map(base_of, found))
         for name in self.options.black_box:
             if name not in known:
-                raise Fault(f"{name} is no module of the design")
+                raise Fault(message("unknown_box", name=name))
         for name, own in found.items():
             if BOX in own.attributes and base_of(name) in self.options.black_box:
                 del own.attributes[BOX]
             elif BOX in own.attributes and name in types:
-                why = f"{base_of(name)} is a black box: " \
-                    "give its file too, or let its outputs have any values"
-                raise Fault(f"{why} (--black-box {base_of(name)})")
+                raise Fault(message("black_box", name=base_of(name)))
 
     def told(self, place: str) -> str:
         """Returns a place in the user's files: its lines alone if columns are those of what is
@@ -345,7 +344,8 @@ class ReadDesign:
             is_later = is_below and (cell.type == COVER or self.has_lives)
             why = " with --multiclock" * (self.options.multiclock and cell.type in (LIVE, FAIR))
             what = f"{KINDS[cell.type]} {cell.label} ({self.told(cell.place)})"
-            yield cell.type if is_later else "", f"{what} is not asked about{why}"
+            line = message("not_asked", what=what, option=why)
+            yield cell.type if is_later else "", line
 
     def put_reset(self) -> None:
         """Puts cells into the folder for assertions, and for the assumption that the reset is held,

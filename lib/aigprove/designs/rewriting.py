@@ -7,6 +7,7 @@ from collections.abc import Iterable, Iterator
 from typing import NamedTuple
 
 from aigprove.circuits.aiger import Fault
+from aigprove.data import message
 from aigprove.designs import properties
 from aigprove.designs.statements import Blocks, closing
 from aigprove.designs.texts import Text
@@ -24,9 +25,6 @@ ELSE, BEGIN, END, SEMICOLON = (re.compile(rb"\s*" + sign)
                                for sign in [rb"else\b", rb"begin\b", rb"end\b", rb";"])
 # Words behind which one item stands without begin and end.
 ALONE = re.compile(rb"(?:[):]|\belse)\s*$")
-IN_BLOCK = "a property with a clock stands beside blocks, and not in one"
-ACTION = "what an assertion does when it passes or fails isn't read, " \
-    "unless it is a system task that tells something: leave it out"
 
 
 class Edit(NamedTuple):
@@ -103,10 +101,10 @@ class Rewriting:
         inner = self.words[found.end() + 1:end - 1]
         whole = actions_end(self.words, end)
         if whole is None:
-            raise self.text.fault(found.start(), ACTION)
+            raise self.text.fault(found.start(), message("action"))
         if found["what"] and (b"@" in inner or IMPLICATION.search(inner)):
             if self.blocks.at(found.start()):
-                raise self.text.fault(found.start(), IN_BLOCK)
+                raise self.text.fault(found.start(), message("property_in_block"))
             return self.edit(found.start(), whole, self.clocked(found, inner))
         if self.words[end:whole].strip() == b";":
             return None
@@ -121,7 +119,7 @@ class Rewriting:
         try:
             given = properties.parsed(inner)
             if found["kind"] == b"cover" and (given.is_later or IMPLICATION.search(inner)):
-                raise Fault(properties.COVERED)
+                raise Fault(message("covered_implication"))
         except Fault as why:
             raise self.text.fault(found.start("kind"), str(why)) from None
         label = found["label"] + b": " if found["label"] else b""

@@ -9,6 +9,7 @@ from collections.abc import Iterable, Iterator
 from typing import NamedTuple
 
 from aigprove.circuits.aiger import Fault
+from aigprove.data import message
 
 # What may belong to a statement of each kind; some of these end where the next one begins, or with
 # what they belong to.
@@ -149,9 +150,9 @@ def parse(text: str) -> Statement:
             attributes = {}
             path += path[-1].body[-1:] * (kind in BLOCKS)
         elif kind and not kind.startswith("#"):
-            raise Fault(f"yosys writes a line that isn't known: {line.strip()}")
+            raise Fault(message("unknown_line", line=line.strip()))
     if len(path) > 1 or attributes:
-        raise Fault("what yosys writes ends too early")
+        raise Fault(message("rtlil_cut"))
     return design
 
 

@@ -4,6 +4,7 @@ import re
 from collections.abc import Collection, Iterator, Mapping
 
 from aigprove.circuits.aiger import decoded
+from aigprove.data import message
 from aigprove.designs.statements import Blocks
 from aigprove.designs.texts import Text
 
@@ -12,7 +13,6 @@ EDGE = re.compile(rb"\b(?:pos|neg)edge\b")
 NAME = re.compile(rb"(?<![\w$.`'\\])[A-Za-z_][\w$]*")
 # What a statement gives a value.
 ASSIGNED = re.compile(rb"(?:[;):]|\bbegin|\belse)\s*([A-Za-z_][\w$]*)\s*(?:\[[^]]*\]\s*)*<?=(?!=)")
-LACKS = "always @({}) doesn't wait for {}, which the block reads: yosys takes it for always @*"
 
 
 def lacking(text: Text, nets: Mapping[str, Collection[str]]) -> Iterator[tuple[int, str]]:
@@ -30,4 +30,4 @@ def lacking(text: Text, nets: Mapping[str, Collection[str]]) -> Iterator[tuple[i
             names = sorted(name for name in map(decoded, own) if name in nets.get(module, ()))
             if names:
                 listed = " ".join(decoded(it[1]).split())
-                yield it.start(), LACKS.format(listed, ", ".join(names))
+                yield it.start(), message("sensitivity", listed=listed, names=", ".join(names))

@@ -5,6 +5,7 @@ import re
 from collections.abc import Iterable, Iterator, Mapping
 
 from aigprove.circuits.aiger import Fault, decoded
+from aigprove.data import message
 
 # What yosys prints of a file whose macros are expanded.
 EXPANDED = re.compile(rb"^-- Verilog code after preprocessor --\n(.*?)^-- END OF DUMP --$\n?",
@@ -32,13 +33,6 @@ ALWAYS = re.compile(rb"(?<![\w$.`])(always)\b(?!\s*@)")
 BOUND = re.compile(rb"(?<![\w$.`])bind\s+([A-Za-z_][\w$]*)\s+([A-Za-z_\\][^;]*;)")
 # Words that may stand behind an index of what isn't a type.
 OPERATORS = rb"(?!(?:or|and|inside|dist|iff|else|matches|with|end)\b)"
-DELAY = "a delay in an initial block isn't read, nor when what is behind it happens"
-ENDLESS = "yosys reads always without an event as a combinational block: let a clock be an input"
-UNENDED = "a comment isn't ended"
-DIMENSIONS = "yosys drops the dimensions of a variable whose type has a name: " \
-    "let the type have them"
-BINDING = "bind is read where it names a module of the files, and one instance: " \
-    "write the instance into the module"
 
 
 class Text:
@@ -65,7 +59,7 @@ class Text:
 
     def fault(self, offset: int, why: str) -> Fault:
         """Returns the fault that is at an offset."""
-        return Fault(f"{self.place(offset)}: {why}")
+        return Fault(message("of_file", path=self.place(offset), why=why))
 
     def check(self, below: Iterable[str]) -> None:
         """Refuses what yosys reads otherwise than Verilog has it, in these modules and outside of
@@ -79,14 +73,16 @@ class Text:
         it."""
         for found in INITIAL.finditer(self.words):
             if b"#" in self.words[found.end():self.ending(found.end())]:
-                yield found.start(1), DELAY
-        yield from ((found.start(1), ENDLESS) for found in ALWAYS.finditer(self.words))
+                yield found.start(1), message("delay")
+        yield from ((found.start(1), message("endless_always"))
+                    for found in ALWAYS.finditer(self.words))
         # Behind it yosys reads nothing, nor what stands at the end for us.
-        yield from ((found.start(), UNENDED) for found in re.finditer(rb"/\*", self.words))
+        yield from ((found.start(), message("open_comment"))
+                    for found in re.finditer(rb"/\*", self.words))
         if names := set(self.types()):
             dimensions = rb"(?<![\w$.`])(%s)\s*(?:\[[^][]*\]\s*)+%s[A-Za-z_\\]" % (
                 b"|".join(map(re.escape, names)), OPERATORS)
-            yield from ((found.start(1), DIMENSIONS)
+            yield from ((found.start(1), message("dimensions"))
                         for found in re.finditer(dimensions, self.words))
 
     def module(self, offset: int) -> str | None:
@@ -156,7 +152,7 @@ def expanded(data: bytes) -> list[bytes]:
     """Returns the texts of the files in what yosys printed of them."""
     texts = EXPANDED.findall(data)
     if any(data.count(mark) != len(texts) for mark in MARKS):
-        raise Fault(f"the design has a line {MARKS[-1].decode()}, which yosys prints too")
+        raise Fault(message("dump_line", line=MARKS[-1].decode()))
     return texts
 
 
@@ -178,10 +174,10 @@ def bound(texts: Mapping[str, bytes]) -> dict[str, bytes]:
     without = {path: Text(Text(text).without_bound(lines)) for path, text in texts.items()}
     for text in without.values():
         if found := BIND.search(text.words):
-            raise text.fault(found.start(1), BINDING)
+            raise text.fault(found.start(1), message("bind"))
     known = {name for text in without.values() for name, *_ in text.spans()}
     for name in lines.keys() - known:
-        raise Fault(f"{name}: {BINDING}")
+        raise Fault(message("of_file", path=name, why=message("bind")))
     return {path: text.with_lines(lines) for path, text in without.items()}
 
 

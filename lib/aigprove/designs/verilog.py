@@ -11,6 +11,7 @@ from collections.abc import Container, Mapping, Sequence
 
 from aigprove.circuits.aiger import Fault
 from aigprove.circuits.witness import Witness
+from aigprove.data import message
 from aigprove.designs import netlist, scripts
 from aigprove.designs.front_ends import ASSERT, COVER, LIVE, File, TranslationTimeout
 from aigprove.designs.modules import paths_of
@@ -24,10 +25,8 @@ from aigprove.output.messages import escaped, plain
 from aigprove.processes.files import path_of
 from aigprove.processes.scheduler import Task
 
-# What is said of a pass of yosys that breaks, and of signals that depend on each other.
+# What is said of a pass of yosys that breaks.
 BROKEN = "was ended by SIGSEGV"
-LOOP = "{} has a combinational loop through {}: let a register be between, or, if that should be " \
-    "no latch, give it a value in each case"
 # How long the text of a small design is.
 SMALL = 1 << 17
 # What finds fewer gates, and how long the text of a design is that is compared in less time without
@@ -65,7 +64,7 @@ class Design(ReadDesign):
             loop = netlist.loop_in(self.top_of("drawn.json")[1]) if BROKEN in str(why) else []
             if not loop:
                 raise type(why)(self.yosys.told(str(why))) from None
-            raise Fault(LOOP.format(self.top, ", ".join(loop))) from None
+            raise Fault(message("loop", top=self.top, names=", ".join(loop))) from None
 
     def make(self) -> None:
         """Makes the file."""
@@ -93,7 +92,7 @@ class Design(ReadDesign):
             netlist.check_drivers(top, drawn)
         top, module = self.top_of("free.json")
         if not WORD.fullmatch(top):
-            raise Fault(f"{top} is no name of a module")
+            raise Fault(message("not_module", name=top))
         return top, module, drawn["ports"].keys()
 
     def top_of(self, name: str) -> tuple[str, Json]:
@@ -151,8 +150,10 @@ class Design(ReadDesign):
         if self.reset:
             signal = self.reset.signal
             port = module["ports"].get(signal, {"direction": ""})
-            if port["direction"] != "input" or len(port["bits"]) > 1 or signal == clock:
-                raise Fault(f"{top} has no input {signal} of one bit that could be a reset")
+            if port["direction"] != "input" or len(port["bits"]) > 1:
+                raise Fault(message("no_reset", top=top, signal=signal))
+            if signal == clock:
+                raise Fault(message("clock_as_reset", top=top, signal=signal))
 
     @functools.cached_property
     def aliases(self) -> dict[str, list[str]]:

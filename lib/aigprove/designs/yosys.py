@@ -15,6 +15,7 @@ from collections.abc import Callable, Iterable, Iterator, Mapping, Sequence, Set
 from typing import Any
 
 from aigprove.circuits.aiger import Fault, decoded
+from aigprove.data import message
 from aigprove.designs.front_ends import File, overdue
 from aigprove.designs.internal import without_internal
 from aigprove.designs.netlist import Json
@@ -48,7 +49,6 @@ MANY, LARGE = 200, 1 << 20
 SEPARATORS = re.compile(rb"[\s\"'`(),;/<>]+")
 COMPUTED = re.compile(rb"`include\s+[^\"<\s]|\$readmem[bh]\s*\(\s*[^\"\s]")
 COMPUTED_NAME = b"`include `name"
-FULL = "{} is full, where yosys writes: make room there, or let TMPDIR be another folder"
 # How many commands a line of a script has at most: yosys copies the rest of a line behind each
 # word.
 LONGEST = 1000
@@ -74,7 +74,7 @@ def named_in(path: str, entries: Set[str], texts: Iterable[bytes]) -> Set[str]:
 
 def full(folder: str) -> Fault:
     """Returns the fault that nothing more can be written where this folder is."""
-    return Fault(FULL.format(os.path.dirname(os.path.dirname(folder))))
+    return Fault(message("full", folder=os.path.dirname(os.path.dirname(folder))))
 
 
 class Yosys:
@@ -83,7 +83,7 @@ class Yosys:
 
     def __init__(self, files: Sequence[File], folder: str, task: Task, deadline: float) -> None:
         if path_of("yosys") is None:
-            raise Fault("yosys is not installed, which makes a file of a design")
+            raise Fault(message("no_yosys"))
         self.path, self.folder, self.task, self.deadline = files[0].path, folder, task, deadline
         self.beside = list(dict.fromkeys(os.path.dirname(file.path) or "." for file in files))
         texts = [file.data for file in files]
@@ -177,8 +177,8 @@ class Yosys:
     def warned(self, said: str) -> None:
         """Keeps the warnings in what yosys said, each as a line."""
         for place, text in WARNING.findall(said):
-            what = " ".join(self.told(text).split())
-            line = f"{self.told(place) if place else self.path}: yosys warns: {what}"
+            line = message("yosys_warns", place=self.told(place) if place else self.path,
+                           warning=" ".join(self.told(text).split()))
             if line not in self.warnings and not any(re.match(hushed, text) for hushed in HUSHED):
                 self.warnings.append(line)
 
@@ -285,6 +285,7 @@ class Run:
             raise full(self.yosys.folder)
         if status != 0:
             why = [line for line in said.splitlines() if "ERROR: " in line]
-            raise Fault(self.yosys.told(why[0]) if why else f"yosys {ending(status)}")
+            raise Fault(self.yosys.told(why[0]) if why
+                        else message("yosys_ended", ending=ending(status)))
         self.yosys.warned(said)
         return said

@@ -9,6 +9,7 @@ from aigprove.circuits.aiger import Circuit, Fault, cone
 from aigprove.circuits.normalised import NormalisedModel, parted
 from aigprove.circuits.simulation import reached
 from aigprove.circuits.witness import Witness
+from aigprove.data import message
 from aigprove.engines.certificate import Certificate
 from aigprove.engines.job import Answer, Job, Missing, Problem, Safe
 from aigprove.options.options import Options
@@ -36,14 +37,14 @@ def path_of_abc(given: str | None) -> str:
     for name in [given] if given else ABCS:
         if program := path_of(name):
             return program
-    raise Missing(f"none of {', '.join(ABCS)} is installed")
+    raise Missing(message("no_abc", names=", ".join(ABCS)))
 
 
 def run_abc(program: str, task: Task, folder: Folder, script: Iterable[str]) -> None:
     """Runs commands of ABC in a folder. ABC has to end with status 0."""
     words: Words = [program, "-q", "; ".join(script)]
     if status := folder.run(task, words):
-        raise Fault(f"ABC {ending(status)}")
+        raise Fault(message("abc_ended", ending=ending(status)))
 
 
 def ask_abc(program: str, task: Task, above: str, model: NormalisedModel,
@@ -74,12 +75,12 @@ class Abc:
         if found:
             trace = job.reached(*model.run(found))
             if trace is None:
-                raise Fault("its counterexample reaches no bad state")
+                raise Fault(message("false_counterexample"))
             job.hand_in_run(trace.text().encode())
         elif invariant:
             made = model.certificate(invariant)
             if made is None:
-                raise Fault("its invariant isn't one of the machine")
+                raise Fault(message("false_invariant"))
             Certificate(job, job.solver(), Sealed(made)).run()
 
 
@@ -155,7 +156,7 @@ class Counting(Job):
 
     def hand_in(self, answer: Answer) -> None:
         assert isinstance(answer, Safe)
-        super().hand_in(answer._replace(certificate="the answer is about rounds"))
+        super().hand_in(answer._replace(certificate=message("about_rounds")))
 
 
 class Rounds:
@@ -163,7 +164,7 @@ class Rounds:
 
     def __init__(self, job: Job) -> None:
         if not job.source.counts:
-            raise Missing("it is for justice properties")
+            raise Missing(message("only_justice"))
         job.solver()
         Pdr(job)
         self.job = job

@@ -5,6 +5,7 @@ from collections.abc import Callable, Iterator, Mapping
 from aigprove.circuits import simulation
 from aigprove.circuits.aiger import Circuit, Fault
 from aigprove.circuits.normalised import PLA, of_abc
+from aigprove.data import message
 from aigprove.engines.job import Job, Safe
 from aigprove.output.signals import Signals
 from aigprove.processes.files import Sealed
@@ -108,7 +109,7 @@ class Certificate:
         model = self.job.problem.normalised
         made = model.certificate(text, model.of_abc())
         if made is None:
-            raise Fault("the invariant names other latches than the file's")
+            raise Fault(message("other_latches"))
         return Sealed(made)
 
 
@@ -136,8 +137,7 @@ class GivenRun:
         run = of_abc(data.decode("utf-8", "replace"), self.job.problem.circuit)
         trace = self.job.reached(*run) if run else None
         if trace is None:
-            raise Fault("WITNESS is neither a witness nor a counterexample of ABC that reaches a "
-                        "bad state")
+            raise Fault(message("no_counterexample"))
         self.job.hand_in_run(trace.text().encode())
 
 
@@ -148,12 +148,12 @@ def broken(joint: Circuit, name: str, solution: Sealed) -> str:
                      for literals in (joint.latches, joint.inputs))
     before, given = listed(signals.values("l", state)), listed(signals.values("i", inputs))
     if name == "base":
-        return f"it doesn't hold at the start: {before}, inputs {given}"
+        return message("no_base", state=before, inputs=given)
     *_, last = simulation.run(joint, state, [inputs, "x" * len(inputs)])
     after = [last[literal] for literal in joint.latches]
     moved = {i for i, (old, new) in enumerate(zip(state, after)) if old != new}
     now = listed(signals.values("l", after, moved))
-    return f"a step breaks it: from {before}, by {given}, to {now}"
+    return message("no_induction", before=before, inputs=given, after=now)
 
 
 def solved(solution: Sealed) -> Callable[[int], str]:

@@ -4,6 +4,7 @@ from __future__ import annotations
 from typing import TYPE_CHECKING
 
 from aigprove.circuits.aiger import Fault
+from aigprove.data import message
 from aigprove.engines.job import FAILED, OPEN, SAFE, UNSAFE, Board, Job, Problem
 from aigprove.engines.portfolio import Portfolio, engines_of
 from aigprove.options.options import Options
@@ -17,9 +18,8 @@ if TYPE_CHECKING:
     from aigprove.output.evidence import Evidence
     from aigprove.questions.assumptions import Assumptions, Endless
 
-# Why there is no certificate, by what an answer comes to.
-NO_CERTIFICATE = {UNSAFE: "the answer is a run", **dict.fromkeys([OPEN, FAILED],
-                                                                 "there is no answer")}
+# The message that says why there is no certificate, by what an answer comes to.
+NO_CERTIFICATE = {UNSAFE: "answer_is_run", OPEN: "no_answer", FAILED: "no_answer"}
 
 
 class Inquiry:
@@ -54,7 +54,7 @@ class Inquiry:
             with unlimited():
                 return self.end_open()
         if status != SAFE:
-            self.printer.certify(NO_CERTIFICATE[status])
+            self.printer.certify(message(NO_CERTIFICATE[status]))
         if status == SAFE and self.source.assumed(self.header):
             from aigprove.questions.assumptions import Assumptions
 
@@ -71,7 +71,7 @@ class Inquiry:
     def end_open(self) -> int:
         """Prints what was shown if there is no answer, and returns the exit status."""
         self.printer.print_open()
-        self.printer.certify(NO_CERTIFICATE[OPEN])
+        self.printer.certify(message(NO_CERTIFICATE[OPEN]))
         if self.options.aiger:
             self.printer.print_report(OPEN)
         self.printer.status = OPEN
@@ -99,7 +99,7 @@ class Inquiry:
             least = max(self.board.steps - 1, self.board.windowed)
             found.look(self.job.solver(), least, self.options.deadline)
         except Fault as why:
-            say(f"assumptions: {why}")
+            say(message("assumptions", why=why))
         except Stopped:
             self.scope.stop()
         if self.evidence:

@@ -17,6 +17,7 @@ from aigprove.circuits.aiger import Circuit, Fault, Header
 from aigprove.circuits.normalised import NormalisedModel
 from aigprove.circuits.simulation import SIMULATED, reached
 from aigprove.circuits.witness import Witness, read_for
+from aigprove.data import message
 from aigprove.engines.rows import ROWS
 from aigprove.options.options import Options
 from aigprove.processes.files import Sealed
@@ -146,9 +147,9 @@ class Problem:
             text = self.checker.text(self.machine)
         except Fault as why:
             said = re.sub("^aig(tool|edit): ", "", str(why))
-            raise Fault(f"{self.source.path}: {said}") from None
+            raise Fault(message("of_file", path=self.source.path, why=said)) from None
         if header_of(text).bads == 0:
-            raise Fault(f"{self.source.path}: {self.source.empty}")
+            raise Fault(message("of_file", path=self.source.path, why=message(self.source.empty)))
         return text
 
     @functools.cached_property
@@ -200,7 +201,7 @@ class Job:
         """Returns the SAT solver."""
         solver = self.options.solver
         if not solver.words:
-            raise Missing("cadical is not installed")
+            raise Missing(message("no_cadical"))
         return Solver(solver.words, self.checker, self.above, solver.takes_turns)
 
     def reached(self, start: str, steps: Sequence[str]) -> Witness | None:

@@ -3,6 +3,7 @@ import queue
 import threading
 from collections.abc import Mapping
 
+from aigprove.data import message
 from aigprove.engines.job import Board, Ended, Engine, Job, Make, Missing, Problem, Sink
 from aigprove.engines.rows import JUSTICE, PAIRS, ROWS, make_of, names_of
 from aigprove.processes.scheduler import Scope, Stopped, Task
@@ -45,7 +46,7 @@ class Portfolio:
             engine = make(Job(self.problem, task, self.board))
         except Missing as why:
             self.freed(name)
-            self.fail(name, f"passed over: {why}")
+            self.fail(name, message("passed_over", why=why))
             return False
         self.board.tasks.append(task)
         work = threading.Thread(target=self.work, args=[task, engine], name=name, daemon=True)

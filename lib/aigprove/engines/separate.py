@@ -10,6 +10,7 @@ from collections.abc import Iterable, Sequence
 
 from aigprove.circuits.aiger import Circuit
 from aigprove.circuits.witness import Witness
+from aigprove.data import message
 from aigprove.engines.job import SAFE, UNSAFE, Answer, Board, Problem, RunFound, StepShown
 from aigprove.engines.portfolio import Portfolio, engines_of
 from aigprove.options.options import Options
@@ -145,7 +146,7 @@ class SeparateProperties:
         if is_new:
             show_progress()
             if isinstance(error, str) or is_fault(error):
-                say(f"{engine}: {why}")
+                say(message("engine", engine=engine, why=why))
             else:
                 report(error, self.options.verbose)
 

@@ -10,6 +10,7 @@ from collections.abc import Iterable, Sequence
 
 from aigprove.circuits.aiger import Circuit, Fault
 from aigprove.circuits.witness import Witness
+from aigprove.data import message
 from aigprove.engines.abc import BMC, PDR, Cones, MultiProperty
 from aigprove.engines.certificate import Certificate
 from aigprove.engines.job import Job, Missing, RunFound
@@ -64,7 +65,7 @@ class SharedProperties(SeparateProperties):
         try:
             self.ask_all(self.abc())
         except Missing as why:
-            self.fail("pdr", f"passed over: {why}")
+            self.fail("pdr", message("passed_over", why=why))
         except Exception as error:
             self.fail_abc("pdr", error)
         finally:
@@ -133,7 +134,7 @@ class SharedProperties(SeparateProperties):
         portfolio = self.portfolio(number)
         trace, checker = Witness(0, start, steps), self.checker.of(self.pdr)
         if not steps or not portfolio.problem.holds(checker, trace):
-            raise Fault("its counterexample reaches no bad state")
+            raise Fault(message("false_counterexample"))
         portfolio.take(name, RunFound([trace]))
         portfolio.close()
 

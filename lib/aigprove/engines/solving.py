@@ -5,6 +5,7 @@ import time
 from collections.abc import Iterator
 
 from aigprove.circuits.witness import read_for
+from aigprove.data import message
 from aigprove.engines.job import Job, Safe
 from aigprove.processes.files import Sealed
 from aigprove.processes.groups import BackgroundCall
@@ -201,8 +202,8 @@ class Windows(Asking):
         shown = self.source.proved(question, base, window, step)
         self.checker.check(shown)
         self.board.windowed = window.k + 1
-        no_certificate = "the answer is about runs on which no state comes twice"
-        self.job.hand_in(Safe([claim, shown], no_certificate if window.form else window.k))
+        certificate: str | int = message("about_paths") if window.form else window.k
+        self.job.hand_in(Safe([claim, shown], certificate))
 
     def forms(self, k: int) -> list[tuple[str, ...]]:
         """Returns the options of the windows that are asked about."""

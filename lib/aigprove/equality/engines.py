@@ -5,6 +5,7 @@ here is believed."""
 import json
 
 from aigprove.circuits.aiger import Fault
+from aigprove.data import message
 from aigprove.engines.abc import path_of_abc
 from aigprove.engines.certificate import Certificate
 from aigprove.engines.job import Job, Missing
@@ -36,11 +37,11 @@ class CorrespondingRegisters:
 
     # The engine and the module that guesses, and why it has no certificate.
     name, guesses = "registers", "guesses"
-    unshown = "something differs where all are equal that may be"
+    unshown = "unshown_registers"
 
     def __init__(self, job: Job) -> None:
         if not isinstance(job.source, Pair):
-            raise Missing("it compares two files, as --equal does")
+            raise Missing(message("only_pairs"))
         self.job, self.pair = job, job.source
         self.solver = job.solver()
         if job.options.solver.is_cadical:
@@ -56,7 +57,7 @@ class CorrespondingRegisters:
             # Of raw clauses those of equal gates are alike.
             Certificate(self.job, self.solver, certificate, "raw").run()
         elif self.job.options.verbose:
-            say(f"{self.name}: {self.unshown}")
+            say(message("engine", engine=self.name, why=message(self.unshown)))
 
     def guessed(self) -> Sealed:
         """Returns the certificate that is guessed, sealed; empty if there is none."""
@@ -72,7 +73,7 @@ class CorrespondingRegisters:
             self.job.board.has_begun.set()
             if status := task.finish(group):
                 *_, last = folder.text("err", "message").strip().split("\n")
-                raise Fault(last or f"its program {ending(status)}")
+                raise Fault(last or message("own_program", ending=ending(status)))
             folder.pass_on()
             return folder.taken("out", "certificate")
 
@@ -83,7 +84,7 @@ class CorrespondingSignals(CorrespondingRegisters):
     If that is none, one is made once a step was seen to keep some classes."""
 
     name = guesses = "scorr"
-    unshown = "what ABC finds to be equal doesn't show it"
+    unshown = "unshown_signals"
 
     def __init__(self, job: Job) -> None:
         super().__init__(job)

@@ -12,6 +12,7 @@ from collections.abc import Iterable, Iterator, Mapping, Sequence
 from typing import Any, Protocol
 
 from aigprove.circuits.aiger import Circuit, Fault, Gates, Lines, text_form
+from aigprove.data import message
 from aigprove.equality.incremental import IncrementalQueries, Pair
 from aigprove.equality.merged_nodes import MergedNodes, Pairs, ordered
 from aigprove.equality.nodes import Classes, Different, Nodes
@@ -104,7 +105,7 @@ class States:
         if classes.size() < size:
             classes.follow([*classes.drawn(nodes.inputs), *state], runs)
         if classes.size() == size:
-            raise Fault("the solver's solution is none")
+            raise Fault(message("false_solution"))
 
 
 def limits_for(gates: int) -> list[str]:
@@ -202,7 +203,7 @@ class Steps:
         size = self.classes.size()
         self.classes.follow(leaves, runs)
         if self.classes.size() == size:
-            raise Fault("the solver's solution is none")
+            raise Fault(message("false_solution"))
 
 
 def certificate(nodes: Nodes, pairs: list[Pair]) -> bytes:

@@ -5,6 +5,7 @@ believed."""
 from collections.abc import Iterable, Sequence
 
 from aigprove.circuits.aiger import Fault, Gates
+from aigprove.data import message
 from aigprove.options.options import HINTED
 from aigprove.processes.files import Folder, Sealed
 from aigprove.processes.scheduler import Task
@@ -102,7 +103,7 @@ class IncrementalQueries:
             left, right = ((it >> 1 in true) ^ (it & 1) for it in pair)
             if left != right:
                 return place if self.is_cadical else 0, true
-        raise Fault("the solver's solution is none")
+        raise Fault(message("false_solution"))
 
 
 def in_turn(words: Iterable[str]) -> list[str]:

@@ -7,6 +7,7 @@ import re
 from collections.abc import Container, Iterable, Iterator, Mapping, Sequence
 
 from aigprove.circuits.aiger import KINDS, Circuit, Symbols, decoded, encoded
+from aigprove.data import message
 from aigprove.options.options import APART, BY_NAME, BY_ORDER, STARTS
 from aigprove.output.messages import escaped
 from aigprove.output.signals import word
@@ -58,7 +59,7 @@ def mismatch(paths: Sequence[str], circuits: Sequence[Circuit], named: Container
     """Returns the line that says why two files don't fit, whose signals of some kinds, by these
     letters, have other names."""
     parts = [described(letter, paths, circuits, letter in named) for letter in SIGNALS]
-    return f"{' and '.join(paths)} don't fit: {', '.join(parts)}"
+    return message("mismatch", paths=" and ".join(paths), counts=", ".join(parts))
 
 
 def partners(way: str, first: Circuit, other: Circuit) -> dict[int, int]:

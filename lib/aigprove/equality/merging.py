@@ -9,6 +9,8 @@ import signal
 import sys
 from collections.abc import Iterable, Iterator, Sequence
 
+from aigprove.data import message
+
 # A gate: its variable and its operands.
 Gate = tuple[int, int, int]
 TRUE, FALSE = -1, 1
@@ -39,7 +41,7 @@ def definitions(lines: Sequence[bytes]) -> tuple[list[Gate], list[tuple[int, ...
     one, two = ([-number for number in numbers[place::4]] for place in (1, 2))
     gates = list(zip(numbers[::4], one, two))
     if 3 * len(gates) != stop - first or any(numbers[3::4]):
-        raise ValueError("there are other clauses than those of gates")
+        raise ValueError(message("other_clauses"))
     return gates, [tuple(map(int, line.split()[:-1])) for line in [*lines[:first], *lines[stop:]]]
 
 

@@ -9,6 +9,7 @@ from aigprove.circuits.aiger import KINDS, Circuit, Fault, Header, Symbols, deco
 from aigprove.circuits.minimal import SMALL, simulated
 from aigprove.circuits.simulation import SIMULATED
 from aigprove.circuits.witness import Witness
+from aigprove.data import message
 from aigprove.designs.front_ends import FRONTS, VERILOG, kind_of
 from aigprove.equality import matched
 from aigprove.equality.matched import SIGNALS, Starts, mismatch
@@ -39,7 +40,7 @@ class Pair(Target):
     """Two files, whose outputs and bad states are compared: their miter is asked about."""
 
     name, so_far = "miter.aag", "equal"
-    empty, can_be_simulated = "no output and no bad state property", False
+    empty, can_be_simulated = "nothing_to_compare", False
 
     def __init__(self, options: Options, above: str, checker: Checker) -> None:
         assert options.equal
@@ -231,10 +232,8 @@ class Pair(Target):
         yield from self.other.warnings()
         first, other = self.constrained()
         if (first or other) and self.constraints != COMPARED:
-            said = "only runs that both files allow are compared"
-            if self.constraints == FIRST:
-                said = "those of the first say which runs are compared, those of the second nothing"
-            yield f"{self.path} have {first} and {other} constraints: {said}"
+            kind = "compared_first" if self.constraints == FIRST else "compared_runs"
+            yield message(kind, paths=self.path, first=first, other=other)
 
     def about(self) -> Iterator[str]:
         """Yields lines of what isn't seen.

@@ -6,6 +6,7 @@ import random
 from collections.abc import Iterable, Iterator
 
 from aigprove.circuits.aiger import Fault, Gates, Header, Lines, binary
+from aigprove.data import message
 from aigprove.equality import guesses
 from aigprove.equality.guesses import AHEAD, Guess, Guesses, Steps
 from aigprove.equality.incremental import IncrementalQueries, Pair
@@ -110,7 +111,7 @@ class FoundSignals(Guesses):
                 out.write(machine(nodes))
             if status := folder.run(self.solver.task,
                                     [self.given["abc"], "-q", UNITE.format(commands)]):
-                raise Fault(f"ABC {ending(status)}")
+                raise Fault(message("abc_ended", ending=ending(status)))
             return outputs(folder.taken("united.aig", "circuit").data())
 
 

@@ -16,7 +16,7 @@ from typing import IO, Any, NoReturn, TypeVar
 
 from aigprove import release
 from aigprove.circuits.aiger import Fault
-from aigprove.data import text
+from aigprove.data import message, text
 from aigprove.designs.front_ends import ASSERT, COVER, FAIR, LIVE
 from aigprove.engines.rows import FILES, PAIRS, ROWS, names_of
 from aigprove.options import tables
@@ -206,7 +206,7 @@ def listed(line: Sequence[str], depth: int = 0) -> list[str]:
 def of_list(path: str, depth: int) -> list[str]:
     """Returns the words of a list of files, which may have others in it."""
     if depth > MOST_LISTS:
-        raise Fault(f"{path} includes itself")
+        raise Fault(message("includes_itself", path=path))
     said = sealed(path).data().decode("utf-8", "surrogateescape")
     words: list[str] = []
     given = iter(shlex.split(re.sub(r"(?m)(^|\s)//.*", "", said), comments=True))
@@ -219,7 +219,7 @@ def of_list(path: str, depth: int) -> list[str]:
         else:
             words.append(word + next(given, "") if word in LISTED else word)
         if word.startswith("-") and not word.startswith(LISTED):
-            raise Fault(f"{path}: {word} is neither a file nor -D, -I or -f")
+            raise Fault(message("bad_word", path=path, word=word))
     return listed(words, depth + 1)
 
 
@@ -234,14 +234,13 @@ def program(places: Iterable[str], missing: str) -> str:
 def trusted(name: str, given: str | None, is_prebuilt: bool) -> str:
     """Returns the path of one of our programs: the one that is given, or the first that is there.
     """
-    missing = f"{given or name} was not found; ./build builds {name}, and so does `rt run` " \
-        f"in crates/{name}"
+    missing = message("not_built", path=given or name, name=name)
     return program([given] if given else release.places(TOP, name, is_prebuilt), missing)
 
 
 def found(name: str) -> str:
     """Returns the path of another program."""
-    return program([name], f"{name} was not found")
+    return program([name], message("not_installed", name=name))
 
 
 def cadical() -> list[str]:

@@ -10,7 +10,7 @@ from typing import Any
 
 from aigprove import VERSION
 from aigprove.circuits.aiger import Fault
-from aigprove.data import text
+from aigprove.data import message, text
 from aigprove.processes.files import Sealed, write
 from aigprove.processes.scheduler import Task
 from aigprove.questions.checker import Checker, Claim
@@ -128,7 +128,7 @@ class EvidenceFolder(Evidence):
             return
         with open(self.path(name), "rb") as there:
             if there.read() != file.data():
-                raise Fault(f"{self.path(name)} is another file than what is asked about")
+                raise Fault(message("another_file", name=self.path(name)))
 
     def end_with(self, lines: Iterable[str]) -> None:
         """Writes what shows the lines of a table again, which are printed alone."""

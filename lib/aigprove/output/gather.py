@@ -10,6 +10,7 @@ from typing import Any, NamedTuple
 
 from aigprove.circuits.aiger import Fault
 from aigprove.circuits.witness import Witness, read_for
+from aigprove.data import message
 from aigprove.engines.separate import SeparateProperties
 from aigprove.output.evidence import ABOVE, EVIDENCE, EvidenceFolder
 from aigprove.output.messages import reason, say
@@ -37,11 +38,11 @@ def taken(path: str, limit: int) -> Sealed:
     try:
         file = opened(path)
     except OSError as why:
-        raise Fault(f"{path}: {why.strerror}") from None
+        raise Fault(message("of_file", path=path, why=why.strerror)) from None
     with file:
         status = os.fstat(file.fileno())
         if not stat.S_ISREG(status.st_mode) or status.st_size > NODE * limit:
-            raise Fault(f"{path} is no file of at most {NODE * limit} bytes")
+            raise Fault(message("not_small_file", path=path, most=NODE * limit))
         return Sealed(file)
 
 
@@ -83,7 +84,7 @@ def lines_in(folder: str, part: str, limit: int) -> list[Line]:
         if not all(isinstance(it, str) for line, by in shown for it in [line, *by]):
             raise ValueError
     except (ValueError, LookupError, TypeError, RecursionError):
-        raise Fault(f"{part or folder}: {EVIDENCE} has another form") from None
+        raise Fault(message("bad_evidence", folder=part or folder, file=EVIDENCE)) from None
     noted = answered_by(kept)
     return [Line(part, line, by, *noted) for line, by in shown]
 
@@ -118,7 +119,7 @@ class Gathered:
         It is asked about by this option; the name is one that a folder has."""
         base = os.path.basename(name)
         if not NAME.fullmatch(base):
-            raise Fault(f"{name} is no name of a file")
+            raise Fault(message("bad_file_name", name=name))
         path = os.path.join(self.folder, "" if name.startswith(ABOVE) else folder, base)
         if path not in self.known:
             data = taken(path, self.checker.limit).data()
@@ -126,13 +127,13 @@ class Gathered:
         for part in self.known[path]:
             if part.source.option == option:
                 return part
-        raise Fault(f"{name} is another file than what is asked about")
+        raise Fault(message("another_file", name=name))
 
     def claim(self, line: Line, file: Sealed) -> Claim:
         """Returns the claim of a line about a file, with the files of its folder."""
         _, (command, _, *words) = line.parted()
         if command not in COMMANDS:
-            raise Fault(f"{command} is no command that shows an answer")
+            raise Fault(message("bad_command", command=command))
         paths = {word: os.path.join(self.folder, line.part, word)
                  for word in words if NAME.fullmatch(word)}
         given = {word: taken(path, self.checker.limit) for word, path in paths.items()
@@ -154,14 +155,14 @@ class Gathered:
             number = run[2] if run else chosen.get(f"--{option}")
             part = self.part_of(left[1], line.part, option)
             if number is not None and int(number) >= len(part.answers):
-                raise Fault(f"there is no {option} {number}")
+                raise Fault(message("no_such_property", option=option, number=number))
             claim = self.claim(line, part.source.subject.file)
             self.checker.check(claim)
             trace = trace_of(claim, run[1]) if run else None
             return Found(part, None if number is None else int(number), line, trace)
         except (Fault, OSError) as why:
             place = os.path.join(self.folder, line.part)
-            say(f"{place}: not shown: {line.line}: {reason(why)}")
+            say(message("not_shown", folder=place, line=line.line, why=reason(why)))
             return None
 
     def lines(self) -> Iterator[Line]:

@@ -6,6 +6,7 @@ import sys
 from collections.abc import Iterable
 
 from aigprove.circuits.aiger import Fault
+from aigprove.data import message
 
 # A byte that may drive a terminal.
 UNPLAIN = re.compile(rb"[^\n -~]")
@@ -75,9 +76,10 @@ def report(error: BaseException, is_verbose: bool, engine: str = "") -> None:
 
     A defect of this package is called so, with its traceback if `is_verbose`."""
     if is_fault(error):
-        say(f"{engine}: {reason(error)}" if engine else reason(error))
+        why = reason(error)
+        say(message("engine", engine=engine, why=why) if engine else why)
         return
-    say(f"internal error: {type(error).__name__}: {error}")
+    say(message("internal_error", type=type(error).__name__, why=error))
     if is_verbose:
         # It takes a while to be imported.
         import traceback

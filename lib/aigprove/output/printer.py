@@ -12,6 +12,7 @@ from typing import TYPE_CHECKING
 from aigprove.circuits.aiger import Fault
 from aigprove.circuits.minimal import SMALL, minimal, simulated
 from aigprove.circuits.witness import Witness
+from aigprove.data import message
 from aigprove.engines.job import SAFE, UNSAFE, Answer, Job, RunFound, StepShown
 from aigprove.output.messages import report, say, show_progress
 from aigprove.output.signals import Signals
@@ -39,7 +40,7 @@ class Printer:
     def take(self, engine: str, answer: Answer) -> int | None:
         status, seconds = self.print_answer(answer), self.board.seconds()
         if self.options.verbose and status is not None:
-            say(f"{engine} answered after {seconds:.1f} s")
+            say(message("answered", engine=engine, seconds=f"{seconds:.1f}"))
         if self.evidence and status is not None:
             self.evidence.note(engine, seconds)
         return status
@@ -47,7 +48,7 @@ class Printer:
     def fail(self, engine: str, error: Exception | str) -> None:
         show_progress()
         if isinstance(error, str):
-            say(f"{engine}: {error}")
+            say(message("engine", engine=engine, why=error))
         else:
             report(error, self.options.verbose, engine)
 
@@ -176,7 +177,7 @@ class Printer:
         if not self.options.write_certificate:
             return
         if isinstance(given, str):
-            say(f"no certificate: {given}")
+            say(message("no_certificate", why=given))
             return
         from aigprove.circuits import certificates
 

@@ -9,6 +9,7 @@ from collections.abc import Callable, Iterable, Iterator, Sequence
 
 from aigprove.circuits.aiger import Circuit, Fault
 from aigprove.circuits.witness import Witness
+from aigprove.data import message
 from aigprove.designs.front_ends import COVER, LIVE
 from aigprove.engines.job import FAILED, OPEN, SAFE, UNSAFE
 from aigprove.engines.portfolio import TICK
@@ -80,7 +81,7 @@ class Table:
             sources.append(Covers(self.options, self.above, self.checker, self.first.given))
         sources += self.fair
         if not sources:
-            raise Fault(f"{self.first.path}: {self.first.empty}")
+            raise Fault(message("of_file", path=self.first.path, why=message(self.first.empty)))
         return sources
 
     def heading(self) -> list[str]:
@@ -169,14 +170,14 @@ class Table:
         found = Assumptions(self.sources[0].placed(ABOVE), self.checker)
         try:
             if not solver.words:
-                raise Fault("cadical is not installed")
+                raise Fault(message("no_cadical"))
             asked = Solver(solver.words, self.checker, self.above, solver.takes_turns)
             now, least = time.monotonic(), max(answer.steps for answer in self.answers)
             # Once the time is over that takes a moment more, from the first step on.
             with limited(max(self.options.deadline, now + 3 * SECONDS)):
                 found.look(asked, least if now < self.options.deadline else 0, now + SECONDS)
         except Fault as why:
-            say(f"assumptions: {why}")
+            say(message("assumptions", why=why))
         except Stopped:
             self.checker.task.scope.stop()
         return found

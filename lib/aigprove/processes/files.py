@@ -12,6 +12,7 @@ from collections.abc import Iterable, Iterator
 from typing import IO, TYPE_CHECKING
 
 from aigprove.circuits.aiger import LIMIT, Fault
+from aigprove.data import message
 from aigprove.output.messages import plain, tell
 
 if TYPE_CHECKING:
@@ -71,7 +72,7 @@ class Sealed:
             source = io.BytesIO(data) if isinstance(data, bytes) else data
             while block := source.read(BLOCK):
                 if most is not None and out.tell() + len(block) > most:
-                    raise Fault(f"{path} has more than {most} bytes")
+                    raise Fault(message("many_bytes", path=path, most=most))
                 out.write(block)
         fcntl.fcntl(self.descriptor, fcntl.F_ADD_SEALS, SEALS)
 
@@ -117,13 +118,13 @@ def sealed(path: str, limit: int | None = None) -> Sealed:
     with so many nodes at most."""
     mode, most = os.stat(path).st_mode, NODE * max(limit or LIMIT, LIMIT)
     if stat.S_ISCHR(mode) or stat.S_ISBLK(mode):
-        raise Fault(f"{path} is a device")
+        raise Fault(message("device", path=path))
     with open(path, "rb") as file:
         found = Sealed(file, path, most)
     if found.line(2) == PACKED:
         found = unpacked(found, path, most)
     if not found.line():
-        raise Fault(f"{path} is empty")
+        raise Fault(message("empty", path=path))
     return found
 
 
@@ -137,7 +138,7 @@ def unpacked(packed: Sealed, path: str, most: int) -> Sealed:
         with gzip.open(packed.path) as file:
             return Sealed(file, path, most)
     except (gzip.BadGzipFile, EOFError, zlib.error) as why:
-        raise Fault(f"{path}: {why}") from None
+        raise Fault(message("of_file", path=path, why=why)) from None
 
 
 def opened(path: str) -> IO[bytes]:
@@ -152,7 +153,7 @@ def write(path: str, pieces: Iterable[bytes], mode: str = "wb") -> None:
         with open(path, mode) as out:
             out.writelines(pieces)
     except OSError as why:
-        raise Fault(f"{path}: {why.strerror}") from None
+        raise Fault(message("of_file", path=path, why=why.strerror)) from None
 
 
 def entries_of(path: str) -> Iterator[tuple[str, os.stat_result]]:
@@ -225,13 +226,13 @@ class Folder:
         try:
             file = opened(self.place(name))
         except OSError:
-            raise Fault(f"left no file as its {what}") from None
+            raise Fault(message("no_file", what=what)) from None
         with file:
             status = os.fstat(file.fileno())
             if not stat.S_ISREG(status.st_mode):
-                raise Fault(f"left no file as its {what}")
+                raise Fault(message("no_file", what=what))
             if status.st_size > self.limit:
-                raise Fault(f"left too long a file as its {what}")
+                raise Fault(message("long_file", what=what))
             return Sealed(file)
 
     def text(self, name: str, what: str) -> str:

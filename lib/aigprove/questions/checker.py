@@ -9,6 +9,7 @@ from collections.abc import Mapping, Sequence
 from typing import IO, NamedTuple
 
 from aigprove.circuits.aiger import LIMIT, Circuit, Fault, Header, Lines
+from aigprove.data import message
 from aigprove.output.messages import ending
 from aigprove.processes.files import Sealed, Word, in_memory
 from aigprove.processes.scheduler import Task
@@ -124,7 +125,7 @@ class Checker(NamedTuple):
         """Has a program print into a file; it has to end with status 0."""
         status, _, said = self.task.output(words, stdout=out)
         if status != 0:
-            hint = "; --limit N takes circuits of so many nodes" * said.rstrip("\n").endswith(LARGE)
+            hint = message("too_many_nodes") * said.rstrip("\n").endswith(LARGE)
             raise Fault((said.partition("\n")[0] or f"{words[0]} {ending(status)}") + hint)
 
     def printed(self, *words: Word) -> Sealed:
@@ -148,7 +149,7 @@ class Checker(NamedTuple):
         line = self.printed(*called).data().decode().rstrip("\n")
         found = LOOP.search(line)
         if not found:
-            raise Fault(f"aigcheck printed {line!r}")
+            raise Fault(message("other_line", line=repr(line)))
         return line, (int(found[1]), int(found[2]))
 
     def joint(self, file: Sealed, certificate: Sealed, is_needed: bool) -> Sealed | None:
@@ -189,7 +190,7 @@ class Checker(NamedTuple):
         if status != 0 and not said.endswith(STEP):
             raise Fault(said or f"{self.aigcheck[0]} {ending(status)}")
         if status == 0 and printed != claim.line + "\n":
-            raise Fault(f"aigcheck printed {printed!r}")
+            raise Fault(message("other_line", line=repr(printed)))
         return said if status else None
 
     def shows(self, claim: Claim) -> bool:

@@ -6,6 +6,7 @@ from collections.abc import Iterable
 
 from aigprove.circuits.aiger import Circuit, Gates
 from aigprove.circuits.certificates import STANDS
+from aigprove.data import message
 from aigprove.processes.files import Sealed
 from aigprove.questions.checker import Condition, Query, Question
 
@@ -32,7 +33,7 @@ def is_named(witness: Sealed) -> bool:
 
 def line_of_unmet(broken: Iterable[str]) -> list[str]:
     """Returns the line of the conditions that aren't met, if there are such."""
-    return [f"it doesn't meet the conditions: {', '.join(broken)}"] if broken else []
+    return [message("conditions", names=", ".join(broken))] if broken else []
 
 
 def with_open_resets(circuit: Circuit, starts: bool) -> None:

@@ -8,6 +8,7 @@ from collections.abc import Iterator, Sequence
 from typing import TYPE_CHECKING
 
 from aigprove.circuits.aiger import Circuit, Fault, Header, Lines, Symbols, decoded, encoded
+from aigprove.data import message
 from aigprove.designs.front_ends import (
     FRONTS, STANDARD_INPUT, VERILOG, File, kind_of, overdue)
 from aigprove.options.options import DesignOptions
@@ -47,8 +48,7 @@ class InputFile:
         self.check_kinds(paths, options)
         self.design: Design | None = None
         if not self.kinds[0] and not self.given[0].line().startswith(b"a"):
-            raise Fault(f"{paths[0]} is no file in AIGER form, which begins with aag or aig, nor "
-                        f"one of a design, whose name ends with {ENDS}")
+            raise Fault(message("unknown_kind", path=paths[0], ends=ENDS))
         if self.kinds[0]:
             files = [File(path, file.data()) for path, file in zip(paths, self.given)]
             try:
@@ -75,13 +75,14 @@ class InputFile:
         """Refuses a file among several that is of no design, and options for designs alone."""
         for path, kind in zip(paths, self.kinds):
             if not kind and len(paths) > 1:
-                raise Fault(f"{path} is no file of a design (those end with {ENDS})")
+                raise Fault(message("not_of_design", path=path, ends=ENDS))
         for option, of in OF_DESIGNS.items():
             given, known = getattr(options, option), of or FRONTS.values()
             if given and not any(kind and FRONTS[kind] in known for kind in self.kinds):
-                what = f"so it has no module {given}" if option == "top" \
-                    else f"and --{option.replace('_', '-')} is for these"
-                raise Fault(f"{self.path} is no design{' in Verilog' if of else ''}, {what}")
+                kind = "not_design_top" if option == "top" else \
+                    "not_verilog" if of else "not_design"
+                raise Fault(message(kind, path=self.path, value=given,
+                                    option=option.replace("_", "-")))
 
     def header(self) -> Header:
         """Returns the header of the file in AIGER form."""
@@ -146,9 +147,7 @@ class InputFile:
         header = self.header()
         unseen = [*counted(header.justice, "justice property", "justice properties"),
                   *counted(header.fairness, "fairness constraint")]
-        if unseen:
-            verb = "was" if header.justice + header.fairness == 1 else "were"
-            yield f"{self.path}: {' and '.join(unseen)} {verb} not looked at"
+        yield from skipped(self.path, unseen, header.justice + header.fairness)
 
     def about(self) -> Iterator[str]:
         """Yields the line of what is asked about a design."""
@@ -182,6 +181,14 @@ def design_of(files: Sequence[File], options: DesignOptions, folder: str, task: 
 def counted(number: int, one: str, many: str | None = None) -> list[str]:
     """Returns how many there are of something, unless there is none."""
     return [f"{number} {one if number == 1 else many or one + 's'}"] if number else []
+
+
+def skipped(path: str, unseen: Sequence[str], count: int) -> Iterator[str]:
+    """Yields the warning that a file has more than what is checked: `unseen` says what, and `count`
+    how many of these there are. Yields nothing if there is none."""
+    if unseen:
+        kind = "was_skipped" if count == 1 else "were_skipped"
+        yield message(kind, path=path, what=" and ".join(unseen))
 
 
 def outermost(name: bytes) -> bytes:

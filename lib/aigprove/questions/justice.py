@@ -10,12 +10,13 @@ from typing import TYPE_CHECKING
 
 from aigprove.circuits.aiger import Circuit, Fault
 from aigprove.circuits.witness import Witness
+from aigprove.data import message
 from aigprove.designs.front_ends import FAIR, LIVE
 from aigprove.output import waves
 from aigprove.processes.files import Sealed
 from aigprove.questions.bad_states import of_kind
 from aigprove.questions.checker import Checker, Claim, Subject
-from aigprove.questions.input_file import InputFile, counted
+from aigprove.questions.input_file import InputFile, counted, skipped
 from aigprove.questions.properties import Properties
 from aigprove.questions.target import Statements, Target, changes_of
 
@@ -36,12 +37,11 @@ class Justice(Properties):
         super().__init__(given)
         design = given.design
         if design and not (design.has_lives and design.assertions):
-            raise Fault(f"{self.path}: {design.top} has no liveness assertion that can be asked "
-                        "about")
+            raise Fault(message("no_liveness", path=self.path, top=design.top))
 
     def one(self, number: int, above: str = "") -> Justice:
         if number >= self.given.header().justice:
-            raise Fault(f"{self.path}: no such justice property")
+            raise Fault(message("no_justice", path=self.path))
         made = super().one(number, above)
         made.so_far, made.nothing = f"no fair lasso of j{number}", f"nothing was shown of j{number}"
         made.told = Statements(*(f"live: {line}" for line in Statements()))
@@ -72,9 +72,8 @@ class Justice(Properties):
         unseen = [*counted(header.bads, "bad state property", "bad state properties"),
                   *counted(header.justice - 1, "other justice property",
                            "other justice properties")]
-        if unseen and self.is_alone:
-            verb = "was" if header.bads + header.justice == 2 else "were"
-            yield f"{self.path}: {' and '.join(unseen)} {verb} not looked at"
+        if self.is_alone:
+            yield from skipped(self.path, unseen, header.bads + header.justice - 1)
 
     def about(self) -> Iterator[str]:
         if self.is_alone or self.number == 0:

@@ -65,11 +65,11 @@ class Target:
     subject: Subject
     # What aigcheck prints, and what is printed of that.
     lines, told = Statements(), Statements()
-    # The beginning of a line of what was shown so far, and the line if that is nothing; what is
-    # said of a file about which nothing can be asked; and what stands behind each line that
+    # The beginning of a line of what was shown so far, and the line if that is nothing; the
+    # message about a file about which nothing can be asked; and what stands behind each line that
     # aigcheck prints of a file in which this package put signals in another order.
     so_far, nothing, empty, behind = \
-        "no bad state", "nothing was shown", "no bad state property", ""
+        "no bad state", "nothing was shown", "no_bads", ""
     # Whether there are circuits that count its rounds, and whether a certificate may be a witness
     # circuit that simulates it.
     counts, can_be_simulated = False, True
