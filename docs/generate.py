@@ -79,7 +79,8 @@ def all_messages() -> Iterator[str]:
     """Yields the messages by section: a table of those that are explained, and a list of the others."""
     for section, group in itertools.groupby(messages().values(), lambda it: it.section):
         yield f"\n### {section}\n\n"
-        own = list(group)
+        # Those of fields alone pass on what another program says.
+        own = [it for it in group if re.search(r"\w", re.sub(r"\{\w+\}", "", it.text))]
         explained = [it for it in own if it.meaning or it.remedy]
         heads = ["Message", "Meaning", "What to do"]
         rows = [[spelled(it), it.meaning.replace("|", "\\|"), it.remedy.replace("|", "\\|")] for it in explained]
