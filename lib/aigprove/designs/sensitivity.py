@@ -1,5 +1,7 @@
-"""Lists of events of combinational blocks: yosys runs such a block whenever something that it reads
-changes, and Verilog only when something in its list does."""
+"""Finds incomplete sensitivity lists of combinational blocks.
+
+Yosys evaluates such a block whenever a signal that it reads changes, and a simulator only when a
+signal in its list changes."""
 import re
 from collections.abc import Collection, Iterator, Mapping
 
@@ -11,13 +13,15 @@ from aigprove.designs.texts import Text
 LIST = re.compile(rb"(?<![\w$.`])always\s*@\s*\(([^()*]*)\)")
 EDGE = re.compile(rb"\b(?:pos|neg)edge\b")
 NAME = re.compile(rb"(?<![\w$.`'\\])[A-Za-z_][\w$]*")
-# What a statement gives a value.
+# The target of an assignment.
 ASSIGNED = re.compile(rb"(?:[;):]|\bbegin|\belse)\s*([A-Za-z_][\w$]*)\s*(?:\[[^]]*\]\s*)*<?=(?!=)")
 
 
 def lacking(text: Text, nets: Mapping[str, Collection[str]]) -> Iterator[tuple[int, str]]:
-    """Yields the places of blocks that read nets which aren't in their lists, and what to say of
-    it. The nets of each module are given."""
+    """Yields the offsets of blocks that read nets which aren't in their sensitivity lists, with a
+    note about each.
+
+    `nets` has the names of each module's nets."""
     found = [it for it in LIST.finditer(text.words) if not EDGE.search(it[1])]
     blocks, spans = Blocks(text.words if found else b""), text.spans() if found else iter(())
     module, end = "", 0
