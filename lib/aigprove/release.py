@@ -1,8 +1,8 @@
-"""Which release the programs are of, as ./dist writes it beside them, and prebuilt programs.
+"""The release of the programs, which ./dist writes beside them, and prebuilt programs.
 
-The folder prebuilt/ of a clone has programs of the last release. They are used only if they were
-built from the crates that the clone has: by the sum that git knows them by, which is computed here
-of the files, so that neither git nor the toolchain is needed."""
+The folder prebuilt/ of a clone has the programs of the last release. They are used only if they
+were built from the crates of the clone: if these have the same git tree hash. It is computed here,
+so that neither git nor the toolchain is needed."""
 import functools
 import hashlib
 import json
@@ -19,8 +19,8 @@ LEFT = {"out", "__pycache__"}
 
 
 class Release(NamedTuple):
-    """A release: its version, the tree of crates/ that its programs were built from, the kit that
-    built them, the tools that linked the shared library, and the sums of files."""
+    """A release: its version, the tree hash of crates/, the toolchain, the linkers of the shared
+    library, and the checksums of files."""
 
     version: str
     tree: str
@@ -33,7 +33,7 @@ class Release(NamedTuple):
 
 
 def read(folder: str) -> Release | None:
-    """Returns the release that a folder tells of, if it does."""
+    """Returns the release that is recorded in a folder, or None."""
     try:
         with open(os.path.join(folder, FILE), encoding="utf-8") as file:
             return Release(**json.load(file))
@@ -42,18 +42,17 @@ def read(folder: str) -> Release | None:
 
 
 def written(release: Release) -> bytes:
-    """Returns the text that `read` reads."""
+    """Returns the text of a release, which `read` reads."""
     return (json.dumps(release._asdict(), indent=2) + "\n").encode()
 
 
 def object_sum(kind: str, data: bytes) -> bytes:
-    """Returns the sum that git knows an object by."""
+    """Returns the git hash of an object."""
     return hashlib.sha1(f"{kind} {len(data)}\0".encode() + data, usedforsecurity=False).digest()
 
 
 def entry(path: os.DirEntry[str]) -> tuple[str, bytes] | None:
-    """Returns the mode and the sum of a file, a link or a folder that isn't empty, as git has
-    them."""
+    """Returns the git mode and hash of a file, a link or a folder; None for an empty folder."""
     if path.is_symlink():
         return "120000", object_sum("blob", os.fsencode(os.readlink(path)))
     if path.is_dir():
@@ -65,7 +64,7 @@ def entry(path: os.DirEntry[str]) -> tuple[str, bytes] | None:
 
 
 def tree_object(folder: str) -> bytes:
-    """Returns the object by which git knows what is in a folder."""
+    """Returns the git tree object of a folder."""
     with os.scandir(folder) as scanned:
         found = [(path.name, it) for path in scanned
                  if path.name not in LEFT and (it := entry(path))]
@@ -77,20 +76,22 @@ def tree_object(folder: str) -> bytes:
 
 @functools.cache
 def tree_of(crates: str) -> str:
-    """Returns the sum that git has for the folder of crates."""
+    """Returns the git tree hash of the folder of crates."""
     return object_sum("tree", tree_object(crates)).hex()
 
 
 def of_clone(top: str) -> Release | None:
-    """Returns the release of a clone's prebuilt programs, if they are of its own crates."""
+    """Returns the release of a clone's prebuilt programs, if they were built from its crates, and
+    otherwise None."""
     known = read(os.path.join(top, PREBUILT))
     return known if known and known.tree == tree_of(os.path.join(top, "crates")) else None
 
 
 def places(top: str, name: str, is_prebuilt: bool) -> Iterator[str]:
-    """Yields where a program may be, in order: where programs are installed below a folder, beside
-    the script that runs, where they are built, in prebuilt/ if that is of the same crates, and in
-    PATH. Yields prebuilt/ alone if its programs are asked for."""
+    """Yields the paths where a program may be, in order: installed below a folder, beside the
+    running script, where it is built, in prebuilt/ if that fits the crates, and in PATH.
+
+    Yields only prebuilt/ if `is_prebuilt`."""
     if not is_prebuilt:
         beside = os.path.dirname(os.path.realpath(sys.argv[0]))
         for folder in [os.path.join(top, "bin"), beside, os.path.join(top, "crates", name, "out")]:
@@ -102,7 +103,7 @@ def places(top: str, name: str, is_prebuilt: bool) -> Iterator[str]:
 
 
 def programs(top: str) -> str:
-    """Returns which release, crates and kit the programs below a folder are of."""
+    """Returns which release, crates and toolchain the programs below a folder come from."""
     crates = os.path.join(top, "crates")
     if not os.path.isdir(crates):
         return str(read(os.path.dirname(os.path.realpath(__file__))) or "of an unknown release")
@@ -112,5 +113,5 @@ def programs(top: str) -> str:
 
 
 def version(top: str) -> str:
-    """Returns what --version prints."""
+    """Returns the output of `--version`."""
     return f"aigprove {VERSION}\nprograms: {programs(top)}\n"

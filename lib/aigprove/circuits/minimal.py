@@ -1,4 +1,4 @@
-"""Runs without the values that don't matter."""
+"""Removes the values that don't matter from traces."""
 import time
 from collections.abc import Callable, Iterable, Sequence
 
@@ -7,21 +7,23 @@ from aigprove.circuits.simulation import trials
 from aigprove.circuits.witness import Witness
 
 Place = tuple[int, int]
-# How many trials are simulated at once; and how many gates in all steps a run has at most that is
-# small enough for that.
+# The number of trials that are simulated at once; and the greatest number of gates, in all steps
+# together, of a trace for which that is done.
 AT_ONCE, SMALL = 1 << 11, 1 << 18
 
 
 def places_of(trace: Witness, opened: Iterable[int]) -> list[Place]:
-    """Returns the places of the values of a run that may be left out: 0 and one of these latches at
-    first, or t + 1 and an input of step t."""
+    """Returns the places of the values of a trace that may be left out.
+
+    A place is 0 and the position of one of these latches, or t + 1 and that of an input in step
+    t."""
     inputs = [(t, i) for i in range(len(trace.steps[0])) for t in range(1, len(trace.steps) + 1)]
     rows = [trace.start, *trace.steps]
     return [(t, i) for t, i in [*((0, i) for i in opened), *inputs] if rows[t][i] != "x"]
 
 
 def without(trace: Witness, places: Iterable[Place]) -> Witness:
-    """Returns a copy of a run without the values at these places."""
+    """Returns a copy of a trace with x at these places."""
     rows = [list(row) for row in [trace.start, *trace.steps]]
     for t, i in places:
         rows[t][i] = "x"
@@ -31,9 +33,11 @@ def without(trace: Witness, places: Iterable[Place]) -> Witness:
 
 def simulated(circuit: Circuit, trace: Witness,
               opened: Iterable[int], bads: Sequence[int], seconds: float) -> Witness:
-    """Returns a run without as many values as may be left out, as far as it is found in so many
-    seconds of work, by simulations of many trials at once: where more is left out less is known, so
-    what can't be left out alone never can, and of several in a row the first few can."""
+    """Returns a trace with x for as many values as possible that don't matter for these bad states,
+    found within a number of seconds of processor time.
+
+    Many trials are simulated at once. Leaving out more values never makes more values known. So a
+    value that can't be left out by itself never can, and of several in a row a first part can."""
     until, places = time.thread_time() + seconds, places_of(trace, opened)
     gone: list[Place] = []
 
@@ -59,9 +63,10 @@ def simulated(circuit: Circuit, trace: Witness,
 
 def minimal(trace: Witness,
             opened: Iterable[int], holds: Callable[[Witness], bool], seconds: float) -> Witness:
-    """Returns a run with x in the place of as many values of these latches initially, and of
-    inputs, as may be left out: by halves, as long as the run `holds`, where no single one more may
-    be left out, unless the seconds are over before that."""
+    """Returns a trace with x for as many values as possible, so that it still `holds`.
+
+    They are found by bisection, until no single value of an input, or of these latches initially,
+    can be left out, or the time is over."""
     parts, until = [places_of(trace, opened)], time.monotonic() + seconds
     while parts and time.monotonic() < until:
         part = parts.pop()

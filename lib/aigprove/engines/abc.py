@@ -1,5 +1,7 @@
-"""ABC, whose counterexamples become witnesses and whose invariants become certificates: on a file,
-on several of its properties at once, and on files that count rounds of a justice property."""
+"""The engines that call ABC. Its counterexamples become witnesses, and its invariants certificates.
+
+ABC is called on a file, on several of its properties at once, and on circuits that count rounds of
+a justice property."""
 from __future__ import annotations
 
 from collections.abc import Iterable, Sequence
@@ -22,18 +24,19 @@ if TYPE_CHECKING:
     from aigprove.questions.justice import Justice
 
 ABCS = ["berkeley-abc", "yosys-abc", "abc"]
-# All properties, each for so many thousandths of a second at most; and the first runs to
-# properties, up to so many steps.
+# PDR is asked about all properties, for EACH milliseconds each. BMC looks for the shortest traces
+# to properties, of a number of steps.
 PDR = "pdr -a -x -d -I inv.pla -H {each}"
 BMC = "bmc3 -a -x -F {steps} -T {seconds}"
-# The initial state and the inputs of each step, by the places of properties.
+# The initial state and the inputs of each step, by the position of a property.
 Runs = dict[int, tuple[str, list[str]]]
-# How many rounds are counted, one after the other.
+# The numbers of rounds that are tried, one after the other.
 COUNTS = [1, 2, 4, 8, 16]
 
 
 def path_of_abc(given: str | None) -> str:
-    """Returns the path of ABC that is given, or else the one that is found."""
+    """Returns the path of ABC: the given one, or the first that is found. Raises Missing if there
+    is none."""
     for name in [given] if given else ABCS:
         if program := path_of(name):
             return program
@@ -41,7 +44,7 @@ def path_of_abc(given: str | None) -> str:
 
 
 def run_abc(program: str, task: Task, folder: Folder, script: Iterable[str]) -> None:
-    """Runs commands of ABC in a folder. ABC has to end with status 0."""
+    """Runs commands of ABC in a folder. Raises Fault unless ABC ends with status 0."""
     words: Words = [program, "-q", "; ".join(script)]
     if status := folder.run(task, words):
         raise Fault(message("abc_ended", ending=ending(status)))
@@ -49,7 +52,8 @@ def run_abc(program: str, task: Task, folder: Folder, script: Iterable[str]) -> 
 
 def ask_abc(program: str, task: Task, above: str, model: NormalisedModel,
             command: str) -> tuple[str, str]:
-    """Returns the counterexamples and the invariant that a command finds; either may be empty."""
+    """Returns the counterexamples and the invariant that a command finds for a model; either may be
+    empty."""
     with Folder(above) as folder:
         with folder.make("machine.aig") as out:
             out.write(model.binary())
@@ -58,7 +62,8 @@ def ask_abc(program: str, task: Task, above: str, model: NormalisedModel,
 
 
 class Abc:
-    """A command of ABC on the normalised model of the file, which begins with its name."""
+    """An engine that runs a command of ABC on the normalised model. The command begins with the
+    engine's name."""
 
     command: str
 
@@ -66,7 +71,7 @@ class Abc:
         self.job, self.program = job, path_of_abc(job.options.abc)
 
     def run(self) -> None:
-        """Runs the command, and hands in what it finds."""
+        """Runs the command, and hands in its answer. Raises Fault if the answer is wrong."""
         job = self.job
         job.progress(self.command.partition(" ")[0])
         model, bound = job.problem.normalised, job.bound
@@ -85,28 +90,28 @@ class Abc:
 
 
 class Bmc3(Abc):
-    """Bounded model checking, where 0 is no bound."""
+    """Bounded model checking. A bound of 0 steps means no bound."""
 
     command = "bmc3 -F {steps}"
 
 
 class Pdr(Abc):
-    """Property directed reachability, whose invariant becomes a certificate."""
+    """Property directed reachability. Its invariant becomes a certificate."""
 
     command = "pdr -d -I inv.pla"
 
 
 class MultiProperty:
-    """Asks ABC about several properties of a circuit."""
+    """Asks ABC about several properties of a circuit at once."""
 
     def __init__(self, options: Options, task: Task, above: str) -> None:
         self.program, self.task, self.above = path_of_abc(options.abc), task, above
 
     def ask(self, circuit: Circuit, command: str) -> tuple[Runs, Sealed | None]:
-        """Returns the runs and the certificate that a command finds.
+        """Returns the traces and the certificate that a command finds.
 
-        The runs reach properties, by their places, and the certificate, if there is one, is for
-        the others."""
+        The traces reach properties, given by their positions. The certificate, if there is one, is
+        for all others."""
         model = NormalisedModel(circuit, is_apart=True)
         found, invariant = ask_abc(self.program, self.task, self.above, model, command)
         made = model.certificate(invariant) if invariant else None
@@ -115,9 +120,8 @@ class MultiProperty:
 
 
 class Cones:
-    """Circuits that have only some of a circuit's bad state properties.
-
-    They leave out gates and next states that these don't read."""
+    """Circuits with only some of a circuit's bad state properties, without the gates and next
+    values that these don't depend on."""
 
     def __init__(self, circuit: Circuit) -> None:
         self.circuit = circuit
@@ -136,9 +140,9 @@ class Cones:
 
 
 class Counting(Job):
-    """A job of pdr about such a file.
+    """A job for pdr on a circuit that counts rounds.
 
-    A run shows that this number of rounds can end, which says nothing about the property."""
+    A trace only means that this number of rounds can end, which says nothing about the property."""
 
     def __init__(self, job: Job, count: int) -> None:
         source = cast("Justice", job.source).counting(count)
@@ -160,7 +164,10 @@ class Counting(Job):
 
 
 class Rounds:
-    """Asks pdr of ABC whether 1, 2, 4 and so on rounds can end, up to the first that can't."""
+    """Asks pdr whether 1, 2, 4 and so on rounds can end, up to the first number that can't
+    (k-liveness).
+
+    Raises Missing if the query isn't about a justice property."""
 
     def __init__(self, job: Job) -> None:
         if not job.source.counts:

@@ -1,4 +1,4 @@
-"""One question of a command line, whose answer is printed."""
+"""Answers one query of a command line, and prints the answer."""
 from __future__ import annotations
 
 from typing import TYPE_CHECKING
@@ -23,7 +23,9 @@ NO_CERTIFICATE = {UNSAFE: "answer_is_run", OPEN: "no_answer", FAILED: "no_answer
 
 
 class Inquiry:
-    """A question, the engines that are asked, and what is printed and kept."""
+    """A query: its engines, and what is printed and written.
+
+    Raises Fault if the file is refused."""
 
     def __init__(self, options: Options, scope: Scope, checker: Checker, above: str,
                  source: Target) -> None:
@@ -31,7 +33,7 @@ class Inquiry:
         task = scope.task("main")
         self.checker = checker.of(task)
         self.problem = Problem(options, source, self.checker, above)
-        # A file that isn't taken is refused before all else.
+        # A malformed file is refused first.
         self.header = self.problem.header
         self.board = Board(options.deadline)
         self.job = Job(self.problem, task, self.board)
@@ -44,7 +46,7 @@ class Inquiry:
         self.printer = Printer(self.job, self.evidence)
 
     def run(self) -> int:
-        """Asks the engines, prints the answer, and returns the exit status."""
+        """Runs the engines, prints the answer, and returns the exit status."""
         for line in [] if self.options.quiet else self.source.warnings():
             say(line)
         for line in self.source.about():
@@ -69,7 +71,7 @@ class Inquiry:
         return OPEN
 
     def end_open(self) -> int:
-        """Prints what was shown if there is no answer, and returns the exit status."""
+        """Prints that the query is undecided, and what is known, and returns the exit status."""
         self.printer.print_open()
         self.printer.certify(message(NO_CERTIFICATE[OPEN]))
         if self.options.aiger:
@@ -94,7 +96,8 @@ class Inquiry:
         return status
 
     def status_of(self, found: Assumptions | Endless) -> int:
-        """Prints whether some run meets what is assumed, by which the answer isn't empty."""
+        """Prints whether the assumptions can be met, and returns the exit status: a proof may be
+        vacuous."""
         try:
             least = max(self.board.steps - 1, self.board.windowed)
             found.look(self.job.solver(), least, self.options.deadline)

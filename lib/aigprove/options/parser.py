@@ -1,7 +1,6 @@
-"""The command line: the arguments that it may have, what they stand for, and the options that they
-come to.
+"""Parses the command line: defines its arguments, and derives the options from them.
 
-`tables.py` has the options' names and help texts."""
+`tables.py` has the names and the help texts of the options."""
 import argparse
 import math
 import os
@@ -29,17 +28,16 @@ Number = TypeVar("Number", int, float)
 Record = TypeVar("Record", Options, DesignOptions)
 TOP = os.path.realpath(os.path.join(os.path.dirname(os.path.realpath(__file__)), "../../.."))
 PROGRAMS = ["aigtool", "aigedit", "aigcheck"]
-# Stands in the place of --, and is nothing that a command line can have.
+# Replaces `--`. No argument of a command line can contain a null character.
 END = "--\0"
 IDENTIFIER = "[A-Za-z_][A-Za-z0-9_$]*"
-# How many lists of files may be in one another, and what may stand there beside files.
+# The greatest nesting of lists of files, and the options that may be in a list.
 MOST_LISTS, LISTED = 16, ("-D", "-I", "-f")
 
 
 class Parser(argparse.ArgumentParser):
-    """A parser of a command line, whose refused words can't drive a terminal.
-
-    A failure of standard output is an error."""
+    """A parser whose messages have no control characters. An error while writing to standard output
+    is raised."""
 
     def error(self, message: str) -> NoReturn:
         super().error(escaped(message))
@@ -52,7 +50,7 @@ class Parser(argparse.ArgumentParser):
 
 
 class Version(argparse.Action):
-    """An option that says the version, which is looked up for nothing else."""
+    """The action of `--version`, which looks up the version."""
 
     def __call__(self, parser: argparse.ArgumentParser, *_: object) -> NoReturn:
         parser._print_message(release.version(TOP), sys.stdout)
@@ -60,7 +58,8 @@ class Version(argparse.Action):
 
 
 def fitting(word: str, pattern: str, why: str) -> re.Match[str]:
-    """Returns how an argument fits a pattern, or refuses it."""
+    """Returns the match of an argument with a pattern. Raises ArgumentTypeError otherwise; `why`
+    describes the pattern."""
     if found := re.fullmatch(pattern, word):
         return found
     raise argparse.ArgumentTypeError(f"{word} isn't {why}")
@@ -68,7 +67,8 @@ def fitting(word: str, pattern: str, why: str) -> re.Match[str]:
 
 def count(pattern: str, what: str, kind: Callable[[str], Number],
           most: int = (1 << 32) - 1) -> Callable[[str], Number]:
-    """Returns the type of arguments with this spelling, which are numbers up to a greatest one."""
+    """Returns the type of arguments that are numbers of `what`: they match `pattern`, and are at
+    most `most`."""
 
     def taken(word: str) -> Number:
         if not re.fullmatch(pattern, word) or kind(word) > most:
@@ -79,26 +79,26 @@ def count(pattern: str, what: str, kind: Callable[[str], Number],
 
 
 def mebibytes(word: str) -> int:
-    """Returns how many bytes a number of MiB is."""
+    """Returns a number of MiB in bytes."""
     return int(word) << 20
 
 
 def nonempty(word: str) -> str:
-    """Returns the name of a file."""
+    """Returns a file name. Raises ArgumentTypeError if it is empty."""
     if not word:
         raise argparse.ArgumentTypeError("the name of the file is empty")
     return word
 
 
 def reset(word: str) -> Reset:
-    """Returns the reset that an argument SIGNAL, SIGNAL=V, SIGNAL:N or SIGNAL=V:N describes."""
+    """Returns the reset in an argument SIGNAL, SIGNAL=V, SIGNAL:N or SIGNAL=V:N."""
     found = fitting(word, f"({IDENTIFIER})(?:=([01]))?(?::([1-9][0-9]{{0,3}}))?",
                     "SIGNAL, SIGNAL=V or SIGNAL=V:N with V 0 or 1, such as rst_n=0:2")
     return Reset(found[1], int(found[2] or 1), int(found[3] or 1))
 
 
 def macro(word: str) -> tuple[str, str]:
-    """Returns the name and the text of a macro."""
+    """Returns the name and the text in an argument NAME or NAME=TEXT."""
     name, is_given, value = word.partition("=")
     is_name = re.fullmatch(IDENTIFIER, name)
     if not is_name or not value.isprintable() or value.endswith("\\"):
@@ -113,7 +113,7 @@ def module(word: str) -> str:
 
 
 def parameter(word: str) -> tuple[str, str]:
-    """Returns the name and the value of a parameter."""
+    """Returns the name and the value in an argument NAME=NUMBER."""
     value = "-?[0-9]+|[0-9]+'s?(?:b[01_]+|o[0-7_]+|d[0-9_]+|h[0-9A-Fa-f_]+)"
     found = fitting(word, f"({IDENTIFIER})=({value})",
                     "NAME=NUMBER, such as WIDTH=8 or MODE=2'b10 (-D takes a text)")
@@ -121,7 +121,8 @@ def parameter(word: str) -> tuple[str, str]:
 
 
 def engines(word: str) -> list[str]:
-    """Returns the names of engines."""
+    """Returns the names of engines in an argument, separated by commas. Raises ArgumentTypeError
+    for an unknown one."""
     names = word.replace("abc", "bmc3,pdr").split(",")
     if unknown := [name for name in names if name not in ROWS]:
         known = ", ".join([*ROWS, "abc"])
@@ -130,7 +131,8 @@ def engines(word: str) -> list[str]:
 
 
 def made_by() -> dict[str, dict[str, Any]]:
-    """Returns how options are read, by the last of their flags, except for names and switches."""
+    """Returns the arguments of `add_argument` for each option, by its last flag, except for names
+    and switches."""
     several: dict[str, Any] = {"action": "append", "default": []}
     index, positive = "[0-9]{1,10}", "[1-9][0-9]{0,9}"
     return {
@@ -153,14 +155,14 @@ def made_by() -> dict[str, dict[str, Any]]:
 
 
 def description() -> str:
-    """Returns what stands before the options in the help text."""
+    """Returns the help text in front of the options."""
     shown = [f"  {engine.name:10}{engine.does}" for engine in tables.engines()]
     lines = [line for item in shown for line in textwrap.wrap(item, 78, subsequent_indent=" " * 12)]
     return "\n".join([text("options/about.txt"), "Engines:", *lines])
 
 
 def epilog() -> str:
-    """Returns what stands behind the options in the help text."""
+    """Returns the help text behind the options."""
     shown = [f"  {status.number:4}{status.when}" for status in tables.statuses()]
     lines = [line for item in shown for line in textwrap.wrap(item, 78, subsequent_indent=" " * 6)]
     return "\n".join(["Exit status:", *lines])
@@ -186,8 +188,9 @@ def make_parser() -> Parser:
 
 
 def listed(line: Sequence[str], depth: int = 0) -> list[str]:
-    """Returns a command line with the words of each list in the place of -f and its name: each file
-    of one behind --equal is one of that option's."""
+    """Returns a command line in which the contents of each list replace `-f` and its name.
+
+    Each file in a list behind `--equal` becomes an argument of that option."""
     found: list[str] = []
     words, is_equal = iter(line), False
     for word in words:
@@ -204,14 +207,15 @@ def listed(line: Sequence[str], depth: int = 0) -> list[str]:
 
 
 def of_list(path: str, depth: int) -> list[str]:
-    """Returns the words of a list of files, which may have others in it."""
+    """Returns the arguments in a list of files, which may contain other lists. Raises Fault for
+    another option."""
     if depth > MOST_LISTS:
         raise Fault(message("includes_itself", path=path))
     said = sealed(path).data().decode("utf-8", "surrogateescape")
     words: list[str] = []
     given = iter(shlex.split(re.sub(r"(?m)(^|\s)//.*", "", said), comments=True))
     for word in given:
-        # As other tools spell them.
+        # The notation of other tools: +incdir+FOLDER and +define+NAME.
         kind, *values = word.split("+")[1:] if word.startswith("+") else [""]
         flag = {"incdir": "-I", "define": "-D"}.get(kind)
         if flag:
@@ -224,7 +228,8 @@ def of_list(path: str, depth: int) -> list[str]:
 
 
 def program(places: Iterable[str], missing: str) -> str:
-    """Returns the path of the first of some programs that exists."""
+    """Returns the path of the first of some programs that exists. Raises Fault with the message
+    `missing` if none does."""
     for place in places:
         if path := path_of(place):
             return os.path.abspath(path)
@@ -232,21 +237,19 @@ def program(places: Iterable[str], missing: str) -> str:
 
 
 def trusted(name: str, given: str | None, is_prebuilt: bool) -> str:
-    """Returns the path of one of our programs: the one that is given, or the first that is there.
-    """
+    """Returns the path of one of aig's own programs: the given one, or the first that exists."""
     missing = message("not_built", path=given or name, name=name)
     return program([given] if given else release.places(TOP, name, is_prebuilt), missing)
 
 
 def found(name: str) -> str:
-    """Returns the path of another program."""
+    """Returns the path of another program. Raises Fault if it isn't installed."""
     return program([name], message("not_installed", name=name))
 
 
 def cadical() -> list[str]:
-    """Returns the words that call cadical for a proof in text, with hints if it knows them.
-
-    There are no words if it isn't installed."""
+    """Returns the command of cadical for a proof in text, with hints if its version has them. It is
+    empty if cadical isn't installed."""
     try:
         options = subprocess.run(["cadical", "--help"], stdin=subprocess.DEVNULL,
                                  capture_output=True).stdout
@@ -256,16 +259,15 @@ def cadical() -> list[str]:
 
 
 def marked(line: Sequence[str]) -> list[str]:
-    """Returns a command line in which arguments behind -- can't be options.
-
-    Those that begin with a dash become paths from here."""
+    """Returns a command line in which arguments behind `--` can't be options: those that begin with
+    a dash become relative paths."""
     end = line.index("--") if "--" in line else len(line)
     behind = [f"./{word}" if word.startswith("-") else word for word in line[end + 1:]]
     return [*line[:end], *[END] * (end < len(line)), *behind]
 
 
 def parse(line: Sequence[str]) -> Options:
-    """Returns the options of a command line, with paths that hold in any folder."""
+    """Returns the options of a command line. Exits with status 2 if it isn't valid."""
     parser = make_parser()
     words = parser.parse_intermixed_args(marked(listed(line)))
     take_top(parser, words)
@@ -289,21 +291,21 @@ def parse(line: Sequence[str]) -> Options:
 
 
 def record(made: type[Record], words: argparse.Namespace, /, **further: object) -> Record:
-    """Returns a record of the options of a command line, and of what follows from them."""
+    """Returns a record of a command line's options and of `further` fields."""
     given = {name: tuple(it) if isinstance(it, list) else it
              for name, it in vars(words).items() if name in made._fields}
     return made(**{**given, **further})
 
 
 def age() -> float:
-    """Returns for how many seconds this process has run. Its start may have taken long."""
+    """Returns for how many seconds this process has run."""
     with open("/proc/self/stat", encoding="utf-8", errors="replace") as file:
         begun = int(file.read().rpartition(")")[2].split()[19])
     return time.clock_gettime(time.CLOCK_BOOTTIME) - begun / os.sysconf("SC_CLK_TCK")
 
 
 def take_top(parser: Parser, words: argparse.Namespace) -> None:
-    """Takes a last argument that could be a name for the top module's name."""
+    """Moves a last argument that isn't a file name to the option `--top`."""
     names = [i for i, word in enumerate(words.files)
              if i and re.fullmatch(IDENTIFIER, word)]
     if names and names[0] < len(words.files) - 1 or names and words.top:
@@ -313,7 +315,7 @@ def take_top(parser: Parser, words: argparse.Namespace) -> None:
 
 
 def design_options(words: argparse.Namespace, deadline: float) -> DesignOptions:
-    """Returns how a design is read, and what is asked about first and by itself."""
+    """Returns the options for reading a design."""
     is_one = words.equal or words.certificate or words.run or words.aiger \
         or words.property is not None
     later = set() if is_one else {LIVE, FAIR, *[COVER] * words.each}
@@ -323,13 +325,13 @@ def design_options(words: argparse.Namespace, deadline: float) -> DesignOptions:
 
 
 def solver_options(words: list[str] | None) -> SolverOptions:
-    """Returns how the SAT solver that the option names, or cadical, is called."""
+    """Returns the command of the SAT solver: that of `--solver`, or cadical."""
     called = words or cadical()
     return SolverOptions((*map(found, called[:1]), *called[1:]), is_cadical=not words)
 
 
 def check_together(parser: Parser, words: argparse.Namespace) -> None:
-    """Refuses questions that can't be combined."""
+    """Exits with an error if queries are combined that can't be."""
     others = words.equal or words.certificate or words.run or words.each
     if words.justice is not None and (others or words.property is not None):
         parser.error("--justice can't be combined with --equal, --certificate, --run, --each or "
@@ -340,7 +342,8 @@ def check_together(parser: Parser, words: argparse.Namespace) -> None:
 
 
 def check_each(parser: Parser, words: argparse.Namespace) -> None:
-    """Refuses options that are only for a table, not for a table, or only for two files."""
+    """Exits with an error if options for a table, for evidence or for two files are missing or
+    can't be combined."""
     alone = [f"--{name}" for name in ["json", "junit", "shortest"] if getattr(words, name)]
     if alone and not words.each:
         parser.error(f"{alone[0]} needs --each")
