@@ -18,8 +18,8 @@ carries it:
 
 Looked for is each string and byte in the code of the crates below the programs; in aigprove, each
 message of messages.txt; and in its modules, docstrings and bytes aside, each string that has a
-blank in it, is given to a call that tells something, is yielded, or is a word of a table. This fails where one of these stands in no row, or
-in a file of code more often than in its rows; and where a row has another text, names a definition,
+blank in it, is given to a call that tells something, is yielded, or is a word of a table. This
+fails where one of these stands in no row, or in a file of code more often than in its rows; and where a row has another text, names a definition,
 test or line of aigcheck that isn't there, has words that no definition has which it names, or words
 that the test hasn't.
 """
@@ -166,9 +166,9 @@ def sources() -> dict[str, dict[str, int]]:
     # Texts that the package prints, or writes into files, stand in files of their own, too.
     for path in [*MODULES.rglob("*.txt"), *MODULES.rglob("*.sh")]:
         text = path.read_text()
-        texts = [cells[1] for line in text.splitlines() if len(cells := line.split("\t")) > 1] \
-            if path.name == MESSAGES else [text]
-        found[f"{PACKAGE}/{path.relative_to(MODULES)}"].update(map(spelled, texts))
+        cells = [line.split("\t") for line in text.splitlines()]
+        own = [row[1] for row in cells if len(row) > 1] if path.name == MESSAGES else [text]
+        found[f"{PACKAGE}/{path.relative_to(MODULES)}"].update(map(spelled, own))
     return {
         place: {text: count for text, count in texts.items() if text.replace("{}", "")}
         for place, texts in found.items()

@@ -25,7 +25,7 @@ from harness import Checks
 
 from aigprove.circuits.aiger import Fault
 from aigprove.circuits.witness import Witness
-from aigprove.designs import netlist, scripts, verilog
+from aigprove.designs import scripts, verilog
 from aigprove.designs import yosys as runner
 from aigprove.designs.front_ends import (
     AGAIN, ASSERT, COVER, DECLARED, DECLARED_LATER, LIVE, LOOKING, STRICT, File, TranslationTimeout,

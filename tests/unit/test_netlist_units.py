@@ -1098,7 +1098,8 @@ def test_netlists(checks: Checks) -> None:
             f"top has several clocks, and one is taken: {PLACED} (rising) and clk (rising)",
         ),
     ]
-    many = f"top has several clocks, and one is taken: clk (falling) and clk (rising) ({MULTICLOCK})"
+    both = "clk (falling) and clk (rising)"
+    many = f"top has several clocks, and one is taken: {both} ({MULTICLOCK})"
     checks.wants(
         "both edges",
         many,
