@@ -19,9 +19,9 @@ carries it:
 Looked for is each string and byte in the code of the crates below the programs; in aigprove, each
 message of messages.txt; and in its modules, docstrings and bytes aside, each string that has a
 blank in it, is given to a call that tells something, is yielded, or is a word of a table. This
-fails where one of these stands in no row, or in a file of code more often than in its rows; and where a row has another text, names a definition,
-test or line of aigcheck that isn't there, has words that no definition has which it names, or words
-that the test hasn't.
+fails where one of these stands in no row, or in a file of code more often than in its rows; and
+where a row has another text, names a definition, test or line of aigcheck that isn't there, has
+words that no definition has which it names, or words that the test hasn't.
 """
 from __future__ import annotations
 
