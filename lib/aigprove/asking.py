@@ -78,20 +78,13 @@ def asked(options: Options, above: str, checker: Checker) -> int:
         if ended is None:
             # The assertions are answered. The time was over while the file of the next query was
             # being generated, or during that query.
-            tell_late(str(why))
+            if str(why):
+                say(why)
             print("undecided: nothing was shown of liveness")
         statuses.append(OPEN if ended is None else ended)
     finally:
         end_evidence(inquiries)
     return next((it for it in (UNSAFE, FAILED, OPEN) if it in statuses), SAFE)
-
-
-def tabled(options: Options, above: str, checker: Checker) -> int:
-    """Checks each property by itself, and returns the exit status of all together."""
-    # Importing this module takes a while.
-    from aigprove.output.table import Table
-
-    return Table(options, checker, above).run()
 
 
 def end_evidence(inquiries: Sequence[Inquiry]) -> None:
@@ -103,12 +96,6 @@ def end_evidence(inquiries: Sequence[Inquiry]) -> None:
             kept[0][0].part(source.stem)
     if kept and kept[0][0]:
         kept[0][0].end()
-
-
-def tell_late(why: str) -> None:
-    """Prints what was going on when the time was over, if that is known."""
-    if why:
-        say(why)
 
 
 @contextlib.contextmanager
@@ -141,14 +128,20 @@ def answer(options: Options) -> int:
     above = new_folder(next(filter(os.path.isdir, temporary)), "aigprove")
     try:
         with limited(options.deadline):
-            return (tabled if options.each else asked)(options, above, checker)
+            if not options.each:
+                return asked(options, above, checker)
+            # Importing this module takes a while.
+            from aigprove.output.table import Table
+
+            return Table(options, checker, above).run()
     except (TranslationTimeout, Stopped) as why:
         late = str(why)
     finally:
         with undisturbed():
             end_all(scheduler)
             remove(above)
-    tell_late(late)
+    if late:
+        say(late)
     if options.each:
         from aigprove.output.report import Report
 

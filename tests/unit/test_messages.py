@@ -10,6 +10,8 @@ from harness import TOP, Checks
 
 from aigprove.data import message, messages
 
+# The calls whose first argument is the name of a message.
+NAMING = {"message", "Fault.of", "Missing.of", "TranslationTimeout.of"}
 MODULES = sorted((TOP / "lib" / "aigprove").rglob("*.py"))
 
 
@@ -22,7 +24,7 @@ def calls() -> Iterator[tuple[str, str, set[str]]]:
     """Yields each call with a literal name: its place, the name, and the fields that it gives."""
     for path in MODULES:
         for node in ast.walk(ast.parse(path.read_text())):
-            if isinstance(node, ast.Call) and getattr(node.func, "id", "") == "message":
+            if isinstance(node, ast.Call) and ast.unparse(node.func) in NAMING:
                 first = node.args[0]
                 if isinstance(first, ast.Constant):
                     given = {it.arg or "" for it in node.keywords}
@@ -31,6 +33,7 @@ def calls() -> Iterator[tuple[str, str, set[str]]]:
 
 def test_calls(checks: Checks) -> None:
     """Each call has exactly the fields of the message that it names."""
+    assert len(list(calls())) > 100
     for place, name, given in calls():
         wanted = fields_of(messages()[name].text) if name in messages() else None
         checks.wants(f"{place}: {name}", wanted, given)

@@ -5,10 +5,14 @@ import contextlib
 import copy
 import itertools
 import re
-from collections.abc import Callable, Iterable, Iterator, Mapping, Sequence
-from typing import Any, cast
+from collections.abc import Iterable, Iterator, Sequence
+from typing import TYPE_CHECKING, Any, cast
 
+from aigprove.circuits.gates import Gate, Gates, cone
 from aigprove.data import message
+
+if TYPE_CHECKING:
+    from typing import Self
 
 KINDS = {"i": "inputs", "l": "latches", "o": "outputs", "b": "bads", "c": "constraints"}
 LIMIT = 1 << 24
@@ -17,13 +21,17 @@ BLOCK = 1 << 14
 COMMENT = re.compile(rb"c(?![0-9])")
 # The bytes of a binary number behind which there is another.
 GOES_ON = bytes(range(128, 256))
-# A gate: its literal and those of its operands. The names of signals, by letter and position.
-Gate = tuple[int, int, int]
+# The names of signals, by letter and position.
 Names = dict[tuple[str, int], bytes]
 
 
 class Fault(Exception):
     """An error with a message for the user: a file is refused, or a query has no answer."""
+
+    @classmethod
+    def of(cls, name: str, /, **fields: object) -> Self:
+        """Returns the error with the message of this name, in which these fields are filled in."""
+        return cls(message(name, **fields))
 
 
 def decimal(digits: bytes) -> int:
@@ -31,7 +39,7 @@ def decimal(digits: bytes) -> int:
     zeros aside."""
     spelled = digits.lstrip(b"0")
     if len(spelled) > 10:
-        raise Fault(message("many_digits"))
+        raise Fault.of("many_digits")
     return int(spelled or b"0")
 
 
@@ -59,7 +67,7 @@ class Lines:
         """Returns the next line, without its line feed. Raises Fault if there is none."""
         end = self.data.find(b"\n", self.place)
         if end < 0:
-            raise Fault(message("ends_early", what=self.what))
+            raise Fault.of("ends_early", what=self.what)
         line = self.data[self.place:end]
         self.place = end + 1
         return line
@@ -68,7 +76,7 @@ class Lines:
         """Skips a number of lines. Raises Fault if there are fewer."""
         *lines, rest = self.data[self.place:].split(b"\n", count)
         if len(lines) < count:
-            raise Fault(message("ends_early", what=self.what))
+            raise Fault.of("ends_early", what=self.what)
         self.place = len(self.data) - len(rest)
 
     def numbers(self, least: int, most: int) -> list[int]:
@@ -76,7 +84,7 @@ class Lines:
         `most`. Raises Fault otherwise."""
         words = self.line().split(b" ")
         if not least <= len(words) <= most or not all(word.isdigit() for word in words):
-            raise Fault(message("bad_numbers", what=self.what))
+            raise Fault.of("bad_numbers", what=self.what)
         return [decimal(word) for word in words]
 
     def number(self) -> int:
@@ -116,7 +124,7 @@ class Lines:
         while count:
             groups = self.data[self.place:self.place + count]
             if not groups:
-                raise Fault(message("ends_early", what=self.what))
+                raise Fault.of("ends_early", what=self.what)
             self.place += len(groups)
             count -= len(groups.translate(None, GOES_ON))
 
@@ -134,9 +142,9 @@ class Lines:
                 self.place += size
                 return found
             if shift == 35:
-                raise Fault(message("bad_difference", what=self.what))
+                raise Fault.of("bad_difference", what=self.what)
         if count:
-            raise Fault(message("ends_early", what=self.what))
+            raise Fault.of("ends_early", what=self.what)
         return found
 
 
@@ -148,7 +156,7 @@ class Header:
         form, *words = lines.line().split(b" ")
         are_numbers = 5 <= len(words) <= 9 and all(word.isdigit() for word in words)
         if form not in (b"aag", b"aig") or not are_numbers:
-            raise Fault(message("bad_header", what=lines.what))
+            raise Fault.of("bad_header", what=lines.what)
         self.is_text = form == b"aag"
         # Before AIGER 1.9 there were no bad state properties: the outputs of a file were its bad
         # states.
@@ -189,7 +197,7 @@ class Circuit:
         self.what = lines.what
         header = self.header = Header(lines)
         if max(header.counts) >= limit:
-            raise Fault(message("too_large", what=lines.what))
+            raise Fault.of("too_large", what=lines.what)
         first_latch = 2 * (header.inputs + 1)
         first_gate = first_latch + 2 * header.latches
         if header.is_text:
@@ -218,12 +226,12 @@ class Circuit:
         defined = [*self.inputs, *self.latches, *(gate for gate, _, _ in self.gates)]
         known = {0, *defined}
         if len(known) <= len(defined) or any(literal & 1 for literal in defined):
-            raise Fault(message("bad_definition", what=self.what))
+            raise Fault.of("bad_definition", what=self.what)
         used = [*self.nexts, *self.outputs, *self.bads,
                 *self.constraints, *itertools.chain.from_iterable(row[1:] for row in self.gates)]
         unknown = next((literal for literal in used if literal & ~1 not in known), None)
         if unknown is not None:
-            raise Fault(message("not_defined", literal=unknown, what=self.what))
+            raise Fault.of("not_defined", literal=unknown, what=self.what)
 
     def put_in_order(self) -> None:
         """Sorts the gates topologically, if they aren't. Raises Fault if they form a cycle."""
@@ -243,7 +251,7 @@ class Circuit:
             self.gates = [gates[literal] for literal in TopologicalSorter(below).static_order()]
         except CycleError as why:
             gate = max(why.args[1])
-            raise Fault(message("cyclic_gate", literal=gate, what=self.what)) from None
+            raise Fault.of("cyclic_gate", literal=gate, what=self.what) from None
 
     def opened(self) -> list[int]:
         """Returns the positions of the uninitialised latches."""
@@ -282,17 +290,6 @@ class Circuit:
         return {i for i, latch in enumerate(self.latches) if latch in seen}
 
 
-def cone(literals: Iterable[int], below: Mapping[int, Sequence[int]]) -> set[int]:
-    """Returns the nodes on which literals depend, by their literals. `below` has the literals that
-    each node reads."""
-    left, seen = [literal & ~1 for literal in literals], set[int]()
-    while left:
-        if (it := left.pop()) not in seen:
-            seen.add(it)
-            left += [literal & ~1 for literal in below.get(it, ())]
-    return seen
-
-
 def text_form(counts: Iterable[int], lines: Iterable[object]) -> bytes:
     """Returns a file in text format with these counts and lines. A line is a number or a tuple of
     numbers."""
@@ -324,7 +321,7 @@ def binary_gates(lines: Lines, count: int, first: int) -> list[Gate]:
     gates = [(gate, gate - one, gate - one - two)
              for gate, one, two in zip(itertools.count(first, 2), numbers[::2], numbers[1::2])]
     if any(right < 0 for *_, right in gates):
-        raise Fault(message("bad_difference", what=lines.what))
+        raise Fault.of("bad_difference", what=lines.what)
     return gates
 
 
@@ -337,57 +334,9 @@ def names(lines: Lines) -> Names:
     while not lines.is_read() and not COMMENT.match(lines.data, lines.place):
         symbol = re.fullmatch(rb"([ilobcjf])([0-9]+) (.*)", lines.line(), re.DOTALL)
         if symbol is None:
-            raise Fault(message("bad_name", what=lines.what))
+            raise Fault.of("bad_name", what=lines.what)
         found[symbol[1].decode(), decimal(symbol[2])] = symbol[3]
     return found
-
-
-class Gates:
-    """Gates with structural hashing: each pair of operands has at most one gate. `first` is the
-    literal of the first gate."""
-
-    def __init__(self, first: int) -> None:
-        self.next = first
-        self.rows: list[tuple[int, int, int]] = []
-        self.made: dict[tuple[int, int], int] = {}
-
-    def both(self, left: int, right: int) -> int:
-        """Returns the literal of the and of two literals."""
-        if left < right:
-            left, right = right, left
-        if right == 0 or left == right ^ 1:
-            return 0
-        if right == 1 or left == right:
-            return left
-        made = self.made.get((left, right))
-        return self.add(left, right) if made is None else made
-
-    def add(self, left: int, right: int) -> int:
-        """Adds a gate, whose larger operand is the first, and returns its literal."""
-        made = self.made[left, right] = self.next
-        self.rows.append((made, left, right))
-        self.next += 2
-        return made
-
-    def take(self, left: int, right: int, literal: int) -> None:
-        """Has another literal returned for the and of two literals from now on."""
-        self.made[max(left, right), min(left, right)] = literal
-
-    def any(self, literals: Iterable[int]) -> int:
-        """Returns the literal of the or of several literals, as a balanced tree."""
-        return self.all([literal ^ 1 for literal in literals]) ^ 1
-
-    def all(self, literals: Iterable[int]) -> int:
-        """Returns the literal of the and of several literals, as a balanced tree."""
-        literals = list(literals) or [1]
-        while len(literals) > 1:
-            pairs = [self.both(left, right) for left, right in zip(literals[::2], literals[1::2])]
-            literals = pairs + literals[2 * len(pairs):]
-        return literals[0]
-
-    def choice(self, condition: int, left: int, right: int) -> int:
-        """Returns the literal of an if-then-else."""
-        return self.both(self.both(condition, left) ^ 1, self.both(condition ^ 1, right) ^ 1) ^ 1
 
 
 def binary(inputs: int, nexts: Sequence[int], outputs: Sequence[int], gates: Gates) -> bytes:
@@ -398,17 +347,3 @@ def binary(inputs: int, nexts: Sequence[int], outputs: Sequence[int], gates: Gat
     lines = "".join(f"{line}\n" for line in [header, *nexts, *outputs])
     return lines.encode() + differences(number for gate, left, right in gates.rows
                                         for number in (gate - left, left - right))
-
-
-def literals_of(circuit: Circuit, gates: Gates, leaves: Mapping[int, int]) -> Callable[[int], int]:
-    """Returns a function from the literals of a circuit to literals over other `gates`.
-
-    `leaves` has the literals of the circuit's inputs and latches there."""
-    known = {0: 0, **leaves}
-
-    def literal(of: int) -> int:
-        return known[of & ~1] ^ (of & 1)
-
-    for gate, left, right in circuit.gates:
-        known[gate] = gates.both(literal(left), literal(right))
-    return literal

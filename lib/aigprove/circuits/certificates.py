@@ -4,7 +4,8 @@ Their first inputs and latches are those of the file, in order, with the same in
 values. Their property is inductive, and implies that of the file. aigcheck checks them."""
 from collections.abc import Callable, Iterable, Iterator, Mapping
 
-from aigprove.circuits.aiger import Circuit, Gates, literals_of, symbols, text_form
+from aigprove.circuits.aiger import Circuit, symbols, text_form
+from aigprove.circuits.gates import Gates, literals_of
 
 # The beginning of a name that says for which literal of a file an input or latch stands.
 STANDS = b"= "

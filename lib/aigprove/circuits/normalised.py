@@ -9,8 +9,8 @@ places in the file (i0, l0), and the input for an uninitialised latch l0 is r0."
 import re
 from collections.abc import Mapping, Sequence
 
-from aigprove.circuits.aiger import Circuit, Fault, Gates, binary, decoded, literals_of, text_form
-from aigprove.data import message
+from aigprove.circuits.aiger import Circuit, Fault, binary, decoded, text_form
+from aigprove.circuits.gates import Gates, literals_of
 
 # A value in ABC's counterexample: the name of an input or latch, the step and the value. OWN are
 # ABC's own names.
@@ -46,7 +46,7 @@ class Named:
         if there are too many steps."""
         # There is a line for each name and step.
         if self.length > LONGEST or self.length * len(names) > 2 * len(self.values):
-            raise Fault(message("long_counterexample"))
+            raise Fault.of("long_counterexample")
         return ["".join(self.values.get((t, name), "0") for name in names)
                 for t in range(self.length)]
 

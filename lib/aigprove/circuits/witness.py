@@ -6,7 +6,6 @@ from collections.abc import Sequence
 from typing import NamedTuple
 
 from aigprove.circuits.aiger import Fault, Header, Lines
-from aigprove.data import message
 
 
 class Witness(NamedTuple):
@@ -50,7 +49,7 @@ def lasso_of(data: bytes, latches: int) -> Witness:
 def values_of(line: bytes, count: int, what: str) -> str:
     """Returns the values in a line. Raises Fault if it doesn't have `count` values."""
     if len(line) != count or line.strip(b"01x"):
-        raise Fault(message("bad_values", what=what, count=count))
+        raise Fault.of("bad_values", what=what, count=count)
     return line.decode()
 
 
@@ -68,18 +67,18 @@ def read(lines: Lines, latches: int, inputs: int, letter: str = "b") -> Witness:
     Fault if there is none, or it is malformed."""
     skip_comments(lines)
     if lines.is_read():
-        raise Fault(message("no_witness"))
+        raise Fault.of("no_witness")
     if lines.line() != b"1":
-        raise Fault(message("no_status"))
+        raise Fault.of("no_status")
     bad = lines.line()
     if not re.fullmatch(rb"%s[0-9]{1,1000}" % letter.encode(), bad):
-        raise Fault(message("bad_property_line"))
+        raise Fault.of("bad_property_line")
     start = values_of(lines.line(), latches, "the state")
     steps: list[str] = []
     while (line := lines.line()) != b".":
         steps.append(values_of(line, inputs, f"step {len(steps)}"))
     if not steps:
-        raise Fault(message("no_step"))
+        raise Fault.of("no_step")
     return Witness(int(bad[1:]), start, steps, letter)
 
 

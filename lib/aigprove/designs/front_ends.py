@@ -3,7 +3,6 @@ stand for properties."""
 from typing import NamedTuple
 
 from aigprove.circuits.aiger import Fault
-from aigprove.data import message
 
 # The command of yosys that reads a file, by the end of its name; `words` are the options for
 # Verilog. After BLIF is read, its latches get one clock.
@@ -51,7 +50,7 @@ class TranslationTimeout(Fault):
 
 def overdue(path: str) -> TranslationTimeout:
     """Returns the exception for a design that yosys didn't read in time."""
-    return TranslationTimeout(message("timed_out", path=path))
+    return TranslationTimeout.of("timed_out", path=path)
 
 
 class File(NamedTuple):

@@ -10,7 +10,6 @@ from collections.abc import Iterator, Mapping, Sequence
 from typing import Any, NamedTuple
 
 from aigprove.circuits.aiger import Fault
-from aigprove.data import message
 from aigprove.designs.rtlil import Part, Signal, Statement, constant, modules_of, spelled
 
 # The nets that hold the values of assertions, assumptions and memory writes that aren't enabled,
@@ -195,8 +194,8 @@ def check_names(modules: Mapping[str, Statement], passed: str = "") -> None:
                 # What an interface has is declared by paths.
                 is_path = other and INTERFACE not in other.attributes
                 if is_path and other and f"\\{own[end + 1:]}" in begins_of(other):
-                    raise Fault(message("ambiguous_name", module=base_of(name), name=own[1:],
-                                        cell=own[1:end], inner=own[end + 1:]))
+                    raise Fault.of("ambiguous_name", module=base_of(name), name=own[1:],
+                                   cell=own[1:end], inner=own[end + 1:])
 
 
 def begins_of(module: Statement) -> set[str]:
@@ -219,7 +218,7 @@ def check_constants(modules: Mapping[str, Statement]) -> None:
             # A net that only initial blocks write, and that nothing reads, may be a loop variable.
             uses = sum(it.words().count(net) for it in module.all())
             if uses > 1 + sum(net in {part.name for part in target} for target, _ in given):
-                raise Fault(message("several_values", module=base_of(name), net=net[1:]))
+                raise Fault.of("several_values", module=base_of(name), net=net[1:])
 
 
 def width_of(wire: Statement) -> int:

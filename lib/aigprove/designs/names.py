@@ -201,13 +201,13 @@ class Trees:
         blocks."""
         uses = self.uses[module, name]
         if not any(use.is_declaring for use in uses):
-            raise Fault(message("unknown_name"))
+            raise Fault.of("unknown_name")
         if (module, name) in self.selected:
-            raise Fault(message("implicit_range"))
+            raise Fault.of("implicit_range")
         if not uses[0].is_declaring:
-            raise Fault(message("used_before"))
+            raise Fault.of("used_before")
         if uses[0].is_local:
-            raise Fault(message("implicit_in_block"))
+            raise Fault.of("implicit_in_block")
 
 
 def ends_with_0(bounds: Node) -> bool:
@@ -265,7 +265,7 @@ class Hierarchy:
         last = cell.rpartition(".")[2]
         found = INDEX.fullmatch(last)
         if found and (source_of(kind), found[1]) in self.trees.arrays:
-            raise Fault(message("array", cell=cell))
+            raise Fault.of("array", cell=cell)
 
     def signal(self, kind: str, path: str) -> Shape:
         """Returns the shape of the net that a path from the module `kind` down means.
@@ -274,16 +274,16 @@ class Hierarchy:
         path."""
         found = list(self.found(kind, path))
         if not found:
-            raise Fault(message("not_found", rule=message("below")))
+            raise Fault.of("not_found", rule=message("below"))
         if len(found) > 1:
-            raise Fault(message("several_signals", count=len(found)))
+            raise Fault.of("several_signals", count=len(found))
         (owner, name), = found
         module = self.modules[owner]
         if name in module.others:
-            raise Fault(message("not_net", kind=module.others[name], module=source_of(owner)))
+            raise Fault.of("not_net", kind=module.others[name], module=source_of(owner))
         net = module.nets[name]
         if lost := sorted(it for it in net.attributes if not HARMLESS.fullmatch(it)):
-            raise Fault(message("attribute", name=lost[0][1:]))
+            raise Fault.of("attribute", name=lost[0][1:])
         return net.shape
 
 

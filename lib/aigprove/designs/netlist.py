@@ -163,14 +163,14 @@ def check_drivers(top: str, module: Json) -> None:
                  if any("z" in bits for bits in cell["connections"].values())]
     for name in open_bits + [name
                              for name, net in module["netnames"].items() if "z" in net["bits"]]:
-        raise Fault(message("tristate", top=top, net=name))
+        raise Fault.of("tristate", top=top, net=name)
     inputs = [bit for port in module["ports"].values() if port["direction"] == "input"
               for bit in port["bits"]]
     read = needed(module)
     for bit in inputs + [bit for cell in valued for bit in outputs(cell)]:
         # A net on which nothing depends may be a loop variable.
         if isinstance(bit, str) or bit in driven and bit in read:
-            raise Fault(message("several_drivers", top=top, net=spelled(module, bit)))
+            raise Fault.of("several_drivers", top=top, net=spelled(module, bit))
         driven.add(bit)
 
 
@@ -195,14 +195,14 @@ def clock_of(top: str, module: Json) -> Clock | None:
         shown = " and ".join(
             f"{spelled(module, clocks[clock])} ({'rising' if clock[1] else 'falling'})"
             for clock in sorted(clocks))
-        raise Fault(message("several_clocks", top=top, clocks=shown, hint=hint))
+        raise Fault.of("several_clocks", top=top, clocks=shown, hint=hint)
     for (clock, _), bit in clocks.items():
         if clock in read:
-            raise Fault(message("clock_as_value", top=top, clock=clock, hint=hint))
+            raise Fault.of("clock_as_value", top=top, clock=clock, hint=hint)
         if module["ports"].get(clock, {"direction": ""})["direction"] != "input":
-            raise Fault(message("own_clock", top=top, clock=spelled(module, bit), hint=hint))
+            raise Fault.of("own_clock", top=top, clock=spelled(module, bit), hint=hint)
         if clock.endswith(";"):
-            raise Fault(message("clock_name", top=top, clock=clock))
+            raise Fault.of("clock_name", top=top, clock=clock)
     return next(iter(clocks), None)
 
 

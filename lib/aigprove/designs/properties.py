@@ -90,7 +90,7 @@ def sequence(words: bytes, edge: int, is_wanted: bool) -> Iterator[Item]:
     for _, place in parts_of(words):
         delay = DELAY.match(words, place)
         if not delay:
-            raise Fault(message("no_property", what=message("delay_range")))
+            raise Fault.of("no_property", what=message("delay_range"))
         if words[last:place].strip() or last:
             yield item(words[last:place], edge, is_wanted)
         edge, last = edge + int(delay[1]), delay.end()
@@ -101,11 +101,11 @@ def item(words: bytes, edge: int, is_wanted: bool) -> Item:
     """Returns an item whose text is an expression. Raises Fault if it isn't one, or if `edge` is
     too large."""
     if edge > LONGEST:
-        raise Fault(message("long_property", most=LONGEST))
+        raise Fault.of("long_property", most=LONGEST)
     if found := OPERATOR.search(words):
-        raise Fault(message("no_property", what=found[0].decode()))
+        raise Fault.of("no_property", what=found[0].decode())
     if not words.strip():
-        raise Fault(message("no_expression"))
+        raise Fault.of("no_expression")
     return Item(edge, words.strip(), is_wanted)
 
 
@@ -115,7 +115,7 @@ def parsed(words: bytes) -> Property:
     Raises Fault if the property has no clock, or a construct that isn't supported."""
     clock = CLOCK.match(words)
     if not clock:
-        raise Fault(message("no_clock"))
+        raise Fault.of("no_clock")
     place, disable = clock.end(), b""
     if found := DISABLE.match(words, place):
         place = closing(words, found.end())
@@ -123,7 +123,7 @@ def parsed(words: bytes) -> Property:
     body = plain(words[place:])
     signs = [(sign, at) for sign, at in parts_of(body) if sign in IMPLYING]
     if len(signs) > 1:
-        raise Fault(message("two_implications"))
+        raise Fault.of("two_implications")
     given: list[Item] = []
     edge, wanted = 0, body
     for sign, at in signs:

@@ -56,7 +56,7 @@ class ReadDesign:
     def __init__(self, files: Sequence[File],
                  options: DesignOptions, folder: str, task: Task) -> None:
         if options.top and not WORD.fullmatch(options.top):
-            raise Fault(message("not_module", name=options.top))
+            raise Fault.of("not_module", name=options.top)
         self.files, self.options, self.reset = files, options, options.reset
         self.yosys = Yosys(files, folder, task, options.deadline)
         self.yosys.put("defines.v",
@@ -145,7 +145,7 @@ class ReadDesign:
             hints = (hint for said, hint in HINTS.items() if said in told)
             raise type(why)("; ".join([told, *hints])) from None
         if place := modules.item_of_x(design):
-            raise Fault(message("x_item", place=self.yosys.told(place)))
+            raise Fault.of("x_item", place=self.yosys.told(place))
         found, types = modules_of(design), types_of(design)
         modules.check_constants(found)
         below = {base_of(name) for name in found}
@@ -156,10 +156,10 @@ class ReadDesign:
             or any(kind.startswith(scripts.MEMORY) for kind in types)
         self.memories = (scripts.MEMORIES if has_memories else "{edges}").format(edges=self.edges())
         if not below:
-            raise Fault(message("no_module", path=self.yosys.path))
+            raise Fault.of("no_module", path=self.yosys.path)
         self.top = next((base_of(name) for name, own in found.items() if TOP in own.attributes), "")
         if not self.top:
-            raise Fault(message("empty_modules", path=self.yosys.path))
+            raise Fault.of("empty_modules", path=self.yosys.path)
         self.free_boxes(found, types)
         for module in found.values():
             modules.renamed(module)
@@ -331,7 +331,7 @@ class ReadDesign:
         for name, _ in self.options.parameter:
             if name not in known:
                 kind = "other_parameters" if known else "no_parameter"
-                raise Fault(message(kind, top=self.top, name=name, known=", ".join(known)))
+                raise Fault.of(kind, top=self.top, name=name, known=", ".join(known))
         return "".join(f" -chparam {name} {value}" for name, value in self.options.parameter)
 
     def free_boxes(self, found: Mapping[str, Statement], types: Container[str]) -> None:
@@ -340,12 +340,12 @@ class ReadDesign:
         known = set(map(base_of, found))
         for name in self.options.black_box:
             if name not in known:
-                raise Fault(message("unknown_box", name=name))
+                raise Fault.of("unknown_box", name=name)
         for name, own in found.items():
             if BOX in own.attributes and base_of(name) in self.options.black_box:
                 del own.attributes[BOX]
             elif BOX in own.attributes and name in types:
-                raise Fault(message("black_box", name=base_of(name)))
+                raise Fault.of("black_box", name=base_of(name))
 
     def told(self, place: str) -> str:
         """Returns a source location in the user's files. Columns are left out if the text was

@@ -11,7 +11,6 @@ from aigprove.circuits import simulation
 from aigprove.circuits.aiger import Circuit, Fault
 from aigprove.circuits.simulation import SIMULATED
 from aigprove.circuits.witness import Witness
-from aigprove.data import message
 from aigprove.designs.netlist import STORED, Bit, Json
 from aigprove.output.signals import number, word
 
@@ -141,7 +140,7 @@ class Replay:
 
     def __init__(self, design: Design, circuit: Circuit, trace: Witness) -> None:
         if len(trace.steps) * len(circuit.gates) > SIMULATED:
-            raise Fault(message("long_run", steps=len(trace.steps)))
+            raise Fault.of("long_run", steps=len(trace.steps))
         failed, dump = design.run(trace)
         self.module, self.trace = design.module, trace
         name, last = design.assertions[trace.bad][0], len(trace.steps) - 1

@@ -125,7 +125,7 @@ class Rewriting:
         try:
             given = properties.parsed(inner)
             if found["kind"] == b"cover" and (given.is_later or IMPLICATION.search(inner)):
-                raise Fault(message("covered_implication"))
+                raise Fault.of("covered_implication")
         except Fault as why:
             raise self.text.fault(found.start("kind"), str(why)) from None
         label = found["label"] + b": " if found["label"] else b""

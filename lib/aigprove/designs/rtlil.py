@@ -9,7 +9,6 @@ from collections.abc import Iterable, Iterator
 from typing import NamedTuple
 
 from aigprove.circuits.aiger import Fault
-from aigprove.data import message
 
 # The kinds of statements that a statement may contain. ENDLESS are those without an `end` of their
 # own: they end where the next one or the enclosing one ends.
@@ -152,9 +151,9 @@ def parse(text: str) -> Statement:
             attributes = {}
             path += path[-1].body[-1:] * (kind in BLOCKS)
         elif kind and not kind.startswith("#"):
-            raise Fault(message("unknown_line", line=line.strip()))
+            raise Fault.of("unknown_line", line=line.strip())
     if len(path) > 1 or attributes:
-        raise Fault(message("rtlil_cut"))
+        raise Fault.of("rtlil_cut")
     return design
 
 

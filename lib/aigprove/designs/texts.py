@@ -60,7 +60,7 @@ class Text:
 
     def fault(self, offset: int, why: str) -> Fault:
         """Returns the exception for an error at an offset."""
-        return Fault(message("of_file", path=self.place(offset), why=why))
+        return Fault.of("of_file", path=self.place(offset), why=why)
 
     def check(self, below: Iterable[str]) -> None:
         """Raises Fault for a construct that yosys silently misreads, in one of the modules `below`
@@ -156,7 +156,7 @@ def expanded(data: bytes) -> list[bytes]:
     Raises Fault if a text has a line that yosys prints around texts."""
     texts = EXPANDED.findall(data)
     if any(data.count(mark) != len(texts) for mark in MARKS):
-        raise Fault(message("dump_line", line=MARKS[-1].decode()))
+        raise Fault.of("dump_line", line=MARKS[-1].decode())
     return texts
 
 
@@ -182,7 +182,7 @@ def bound(texts: Mapping[str, bytes]) -> dict[str, bytes]:
             raise text.fault(found.start(1), message("bind"))
     known = {name for text in without.values() for name, *_ in text.spans()}
     for name in lines.keys() - known:
-        raise Fault(message("of_file", path=name, why=message("bind")))
+        raise Fault.of("of_file", path=name, why=message("bind"))
     return {path: text.with_lines(lines) for path, text in without.items()}
 
 

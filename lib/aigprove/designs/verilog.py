@@ -11,7 +11,6 @@ from collections.abc import Container, Mapping, Sequence
 
 from aigprove.circuits.aiger import Fault
 from aigprove.circuits.witness import Witness
-from aigprove.data import message
 from aigprove.designs import netlist, scripts
 from aigprove.designs.front_ends import ASSERT, COVER, LIVE, File, TranslationTimeout
 from aigprove.designs.modules import paths_of
@@ -66,7 +65,7 @@ class Design(ReadDesign):
             loop = netlist.loop_in(self.top_of("drawn.json")[1]) if BROKEN in str(why) else []
             if not loop:
                 raise type(why)(self.yosys.told(str(why))) from None
-            raise Fault(message("loop", top=self.top, names=", ".join(loop))) from None
+            raise Fault.of("loop", top=self.top, names=", ".join(loop)) from None
 
     def make(self) -> None:
         """Translates the design."""
@@ -95,7 +94,7 @@ class Design(ReadDesign):
             netlist.check_drivers(top, drawn)
         top, module = self.top_of("free.json")
         if not WORD.fullmatch(top):
-            raise Fault(message("not_module", name=top))
+            raise Fault.of("not_module", name=top)
         return top, module, drawn["ports"].keys()
 
     def top_of(self, name: str) -> tuple[str, Json]:
@@ -153,9 +152,9 @@ class Design(ReadDesign):
             signal = self.reset.signal
             port = module["ports"].get(signal, {"direction": ""})
             if port["direction"] != "input" or len(port["bits"]) > 1:
-                raise Fault(message("no_reset", top=top, signal=signal))
+                raise Fault.of("no_reset", top=top, signal=signal)
             if signal == clock:
-                raise Fault(message("clock_as_reset", top=top, signal=signal))
+                raise Fault.of("clock_as_reset", top=top, signal=signal)
 
     @functools.cached_property
     def aliases(self) -> dict[str, list[str]]:

@@ -76,7 +76,7 @@ def named_in(path: str, entries: Set[str], texts: Iterable[bytes]) -> Set[str]:
 
 def full(folder: str) -> Fault:
     """Returns the exception for a full file system. `folder` is the one into which yosys writes."""
-    return Fault(message("full", folder=os.path.dirname(os.path.dirname(folder))))
+    return Fault.of("full", folder=os.path.dirname(os.path.dirname(folder)))
 
 
 class Yosys:
@@ -87,7 +87,7 @@ class Yosys:
 
     def __init__(self, files: Sequence[File], folder: str, task: Task, deadline: float) -> None:
         if path_of("yosys") is None:
-            raise Fault(message("no_yosys"))
+            raise Fault.of("no_yosys")
         self.path, self.folder, self.task, self.deadline = files[0].path, folder, task, deadline
         self.beside = list(dict.fromkeys(os.path.dirname(file.path) or "." for file in files))
         texts = [file.data for file in files]

@@ -7,7 +7,8 @@ from __future__ import annotations
 from collections.abc import Iterable, Sequence
 from typing import TYPE_CHECKING, cast
 
-from aigprove.circuits.aiger import Circuit, Fault, cone
+from aigprove.circuits.aiger import Circuit, Fault
+from aigprove.circuits.gates import cone
 from aigprove.circuits.normalised import NormalisedModel, parted
 from aigprove.circuits.simulation import reached
 from aigprove.circuits.witness import Witness
@@ -40,14 +41,14 @@ def path_of_abc(given: str | None) -> str:
     for name in [given] if given else ABCS:
         if program := path_of(name):
             return program
-    raise Missing(message("no_abc", names=", ".join(ABCS)))
+    raise Missing.of("no_abc", names=", ".join(ABCS))
 
 
 def run_abc(program: str, task: Task, folder: Folder, script: Iterable[str]) -> None:
     """Runs commands of ABC in a folder. Raises Fault unless ABC ends with status 0."""
     words: Words = [program, "-q", "; ".join(script)]
     if status := folder.run(task, words):
-        raise Fault(message("abc_ended", ending=ending(status)))
+        raise Fault.of("abc_ended", ending=ending(status))
 
 
 def ask_abc(program: str, task: Task, above: str, model: NormalisedModel,
@@ -80,12 +81,12 @@ class Abc:
         if found:
             trace = job.reached(*model.run(found))
             if trace is None:
-                raise Fault(message("false_counterexample"))
+                raise Fault.of("false_counterexample")
             job.hand_in_run(trace.text().encode())
         elif invariant:
             made = model.certificate(invariant)
             if made is None:
-                raise Fault(message("false_invariant"))
+                raise Fault.of("false_invariant")
             Certificate(job, job.solver(), Sealed(made)).run()
 
 
@@ -171,7 +172,7 @@ class Rounds:
 
     def __init__(self, job: Job) -> None:
         if not job.source.counts:
-            raise Missing(message("only_justice"))
+            raise Missing.of("only_justice")
         job.solver()
         Pdr(job)
         self.job = job

@@ -112,7 +112,7 @@ class Certificate:
         model = self.job.problem.normalised
         made = model.certificate(text, model.of_abc())
         if made is None:
-            raise Fault(message("other_latches"))
+            raise Fault.of("other_latches")
         return Sealed(made)
 
 
@@ -140,7 +140,7 @@ class GivenRun:
         run = of_abc(data.decode("utf-8", "replace"), self.job.problem.circuit)
         trace = self.job.reached(*run) if run else None
         if trace is None:
-            raise Fault(message("no_counterexample"))
+            raise Fault.of("no_counterexample")
         self.job.hand_in_run(trace.text().encode())
 
 

@@ -148,9 +148,9 @@ class Problem:
             text = self.checker.text(self.machine)
         except Fault as why:
             said = re.sub("^aig(tool|edit): ", "", str(why))
-            raise Fault(message("of_file", path=self.source.path, why=said)) from None
+            raise Fault.of("of_file", path=self.source.path, why=said) from None
         if header_of(text).bads == 0:
-            raise Fault(message("of_file", path=self.source.path, why=message(self.source.empty)))
+            raise Fault.of("of_file", path=self.source.path, why=message(self.source.empty))
         return text
 
     @functools.cached_property
@@ -202,7 +202,7 @@ class Job:
         """Returns the SAT solver. Raises Missing if there is none."""
         solver = self.options.solver
         if not solver.words:
-            raise Missing(message("no_cadical"))
+            raise Missing.of("no_cadical")
         return Solver(solver.words, self.checker, self.above, solver.takes_turns)
 
     def reached(self, start: str, steps: Sequence[str]) -> Witness | None:

@@ -134,7 +134,7 @@ class SharedProperties(SeparateProperties):
         portfolio = self.portfolio(number)
         trace, checker = Witness(0, start, steps), self.checker.of(self.pdr)
         if not steps or not portfolio.problem.holds(checker, trace):
-            raise Fault(message("false_counterexample"))
+            raise Fault.of("false_counterexample")
         portfolio.take(name, RunFound([trace]))
         portfolio.close()
 

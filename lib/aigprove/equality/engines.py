@@ -46,7 +46,7 @@ class CorrespondingRegisters:
 
     def __init__(self, job: Job) -> None:
         if not isinstance(job.source, Pair):
-            raise Missing(message("only_pairs"))
+            raise Missing.of("only_pairs")
         self.job, self.pair = job, job.source
         self.solver = job.solver()
         if job.options.solver.is_cadical:

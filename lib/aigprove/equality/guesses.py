@@ -10,10 +10,10 @@ import os
 import random
 import sys
 from collections.abc import Iterable, Iterator, Mapping, Sequence
-from typing import Any, Protocol
+from typing import Any
 
-from aigprove.circuits.aiger import Circuit, Fault, Gates, Lines, text_form
-from aigprove.data import message
+from aigprove.circuits.aiger import Circuit, Fault, Lines, text_form
+from aigprove.circuits.gates import Gates
 from aigprove.equality.incremental import IncrementalQueries, Pair
 from aigprove.equality.merged_nodes import MergedNodes, Pairs, ordered
 from aigprove.equality.nodes import Classes, Different, Nodes
@@ -28,15 +28,6 @@ OTHER = b"other."
 LEAST, QUICK, FEW, MANY = 1, 1000, 300, 20000
 # The numbers of further steps whose nodes are included, one after the other.
 AHEAD = [2, 6]
-
-
-class Guess(Protocol):
-    """Classes of nodes that may be equal."""
-
-    nodes: Nodes
-
-    def pairs(self) -> list[Pair]:
-        """Returns pairs of nodes whose equality is inductive."""
 
 
 def partners(circuit: Circuit, count: int, others: int,
@@ -93,7 +84,8 @@ class States:
         asked = [(nodes.next(left), nodes.next(right))
                  for left, right in states] + [(bad, 0) for bad in nodes.bads]
         while classes.size() == size:
-            limits = limits_for(len(nodes.gates.rows))
+            count = len(nodes.gates.rows)
+            limits = ["-t", str(LEAST + count // QUICK), *["-c", str(FEW)] * (count <= MANY)]
             found = self.solver.differing(nodes.gates, facts, asked, limits)
             if found is None:
                 return states
@@ -111,12 +103,7 @@ class States:
         if classes.size() < size:
             classes.follow([*classes.drawn(nodes.inputs), *state], runs)
         if classes.size() == size:
-            raise Fault(message("false_solution"))
-
-
-def limits_for(gates: int) -> list[str]:
-    """Returns the options of cadical for a quick call on this number of gates."""
-    return ["-t", str(LEAST + gates // QUICK), *(["-c", str(FEW)] if gates <= MANY else [])]
+            raise Fault.of("false_solution")
 
 
 class Steps:
@@ -214,7 +201,7 @@ class Steps:
         size = self.classes.size()
         self.classes.follow(leaves, runs)
         if self.classes.size() == size:
-            raise Fault(message("false_solution"))
+            raise Fault.of("false_solution")
 
 
 def certificate(nodes: Nodes, pairs: list[Pair]) -> bytes:
@@ -232,6 +219,10 @@ def certificate(nodes: Nodes, pairs: list[Pair]) -> bytes:
               for latch, reset in zip(nodes.latches, nodes.resets)]
     counts = [(gates.next >> 1) - 1, len(nodes.inputs), len(states), 0, len(gates.rows), len(bads)]
     return text_form(counts, [*nodes.inputs, *states, *bads, *gates.rows])
+
+
+# Classes of nodes that may be equal.
+Guess = States | Steps
 
 
 class Guesses:

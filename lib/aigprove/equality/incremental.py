@@ -4,8 +4,8 @@ cadical is asked about one after the other, and reuses what it has learned. Othe
 about all at once. The answers aren't checked."""
 from collections.abc import Iterable, Sequence
 
-from aigprove.circuits.aiger import Fault, Gates
-from aigprove.data import message
+from aigprove.circuits.aiger import Fault
+from aigprove.circuits.gates import Gates
 from aigprove.options.options import HINTED
 from aigprove.processes.files import Folder, Sealed
 from aigprove.processes.scheduler import Task
@@ -36,16 +36,6 @@ def gate_clauses(gates: Gates) -> list[str]:
     rows = ((gate >> 1, dimacs(left), dimacs(right)) for gate, left, right in gates.rows)
     return [f"-{gate} {left} 0\n-{gate} {right} 0\n{gate} {-left} {-right} 0\n"
             for gate, left, right in rows]
-
-
-def equal_clauses(pairs: Iterable[Pair]) -> list[str]:
-    """Returns clauses that say that the two literals of each pair are equal."""
-    return [line(it ^ 1 for it in way) for pair in pairs for way in apart(*pair)]
-
-
-def ways_in_turn(ways: Iterable[Sequence[int]]) -> list[str]:
-    """Returns the assumptions by which cadical is asked about ways in turn."""
-    return [f"a {line(way)}" for way in ways]
 
 
 def ways_at_once(ways: Sequence[Sequence[int]], first: int) -> list[str]:
@@ -91,9 +81,10 @@ class IncrementalQueries:
         query."""
         if self.gates is not gates:
             self.gates, self.clauses = gates, "".join(gate_clauses(gates))
-        further = equal_clauses(facts)
+        further = [line(it ^ 1 for it in way) for pair in facts for way in apart(*pair)]
         if self.is_cadical:
-            return ["p inccnf\n", self.clauses, "".join(further + ways_in_turn(ways))]
+            further += [f"a {line(way)}" for way in ways]
+            return ["p inccnf\n", self.clauses, "".join(further)]
         further += ways_at_once(ways, gates.next >> 1)
         variables = (gates.next >> 1) + len(ways) - 1
         head = f"p cnf {variables} {3 * len(gates.rows) + len(further)}\n"
@@ -107,7 +98,7 @@ class IncrementalQueries:
             left, right = ((it >> 1 in true) ^ (it & 1) for it in pair)
             if left != right:
                 return place if self.is_cadical else 0, true
-        raise Fault(message("false_solution"))
+        raise Fault.of("false_solution")
 
 
 def in_turn(words: Iterable[str]) -> list[str]:

@@ -2,7 +2,7 @@
 trusted."""
 from collections.abc import Sequence
 
-from aigprove.circuits.aiger import Gates
+from aigprove.circuits.gates import Gates
 from aigprove.equality.nodes import Classes, Nodes
 
 # Two nodes that structural hashing doesn't merge, and their literals after merging all others.

@@ -13,7 +13,8 @@ import operator
 import random
 from collections.abc import Iterable, Mapping, Sequence
 
-from aigprove.circuits.aiger import Circuit, Gates, literals_of
+from aigprove.circuits.aiger import Circuit
+from aigprove.circuits.gates import Gates, literals_of
 
 # The values of all literals, indexed by literal.
 Known = Sequence[int]

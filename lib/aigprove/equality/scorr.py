@@ -6,8 +6,8 @@ import collections
 import random
 from collections.abc import Iterable, Iterator
 
-from aigprove.circuits.aiger import Fault, Gates, Header, Lines, binary
-from aigprove.data import message
+from aigprove.circuits.aiger import Fault, Header, Lines, binary
+from aigprove.circuits.gates import Gates
 from aigprove.equality import guesses
 from aigprove.equality.guesses import AHEAD, Guess, Guesses, Steps
 from aigprove.equality.incremental import IncrementalQueries, Pair
@@ -113,7 +113,7 @@ class FoundSignals(Guesses):
                 out.write(machine(nodes))
             if status := folder.run(self.solver.task,
                                     [self.given["abc"], "-q", UNITE.format(commands)]):
-                raise Fault(message("abc_ended", ending=ending(status)))
+                raise Fault.of("abc_ended", ending=ending(status))
             return outputs(folder.taken("united.aig", "circuit").data())
 
 

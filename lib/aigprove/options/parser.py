@@ -210,7 +210,7 @@ def of_list(path: str, depth: int) -> list[str]:
     """Returns the arguments in a list of files, which may contain other lists. Raises Fault for
     another option."""
     if depth > MOST_LISTS:
-        raise Fault(message("includes_itself", path=path))
+        raise Fault.of("includes_itself", path=path)
     said = sealed(path).data().decode("utf-8", "surrogateescape")
     words: list[str] = []
     given = iter(shlex.split(re.sub(r"(?m)(^|\s)//.*", "", said), comments=True))
@@ -223,7 +223,7 @@ def of_list(path: str, depth: int) -> list[str]:
         else:
             words.append(word + next(given, "") if word in LISTED else word)
         if word.startswith("-") and not word.startswith(LISTED):
-            raise Fault(message("bad_word", path=path, word=word))
+            raise Fault.of("bad_word", path=path, word=word)
     return listed(words, depth + 1)
 
 

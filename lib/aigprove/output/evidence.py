@@ -10,7 +10,7 @@ from typing import Any
 
 from aigprove import VERSION
 from aigprove.circuits.aiger import Fault
-from aigprove.data import message, text
+from aigprove.data import text
 from aigprove.processes.files import Sealed, write
 from aigprove.processes.scheduler import Task
 from aigprove.questions.checker import Checker, Claim
@@ -129,7 +129,7 @@ class EvidenceFolder(Evidence):
             return
         with open(self.path(name), "rb") as there:
             if there.read() != file.data():
-                raise Fault(message("another_file", name=self.path(name)))
+                raise Fault.of("another_file", name=self.path(name))
 
     def end_with(self, lines: Iterable[str]) -> None:
         """Writes the script, which is to print these lines of a table."""

@@ -39,11 +39,11 @@ def taken(path: str, limit: int) -> Sealed:
     try:
         file = opened(path)
     except OSError as why:
-        raise Fault(message("of_file", path=path, why=why.strerror)) from None
+        raise Fault.of("of_file", path=path, why=why.strerror) from None
     with file:
         status = os.fstat(file.fileno())
         if not stat.S_ISREG(status.st_mode) or status.st_size > NODE * limit:
-            raise Fault(message("not_small_file", path=path, most=NODE * limit))
+            raise Fault.of("not_small_file", path=path, most=NODE * limit)
         return Sealed(file)
 
 
@@ -87,7 +87,7 @@ def lines_in(folder: str, part: str, limit: int) -> list[Line]:
         if not all(isinstance(it, str) for line, by in shown for it in [line, *by]):
             raise ValueError
     except (ValueError, LookupError, TypeError, RecursionError):
-        raise Fault(message("bad_evidence", folder=part or folder, file=EVIDENCE)) from None
+        raise Fault.of("bad_evidence", folder=part or folder, file=EVIDENCE) from None
     noted = answered_by(kept)
     return [Line(part, line, by, *noted) for line, by in shown]
 
@@ -122,7 +122,7 @@ class Gathered:
         Raises Fault if the file isn't one that is checked now."""
         base = os.path.basename(name)
         if not NAME.fullmatch(base):
-            raise Fault(message("bad_file_name", name=name))
+            raise Fault.of("bad_file_name", name=name)
         path = os.path.join(self.folder, "" if name.startswith(ABOVE) else folder, base)
         if path not in self.known:
             data = taken(path, self.checker.limit).data()
@@ -130,13 +130,13 @@ class Gathered:
         for part in self.known[path]:
             if part.source.option == option:
                 return part
-        raise Fault(message("another_file", name=name))
+        raise Fault.of("another_file", name=name)
 
     def claim(self, line: Line, file: Sealed) -> Claim:
         """Returns the claim of a line about a file. Its other files are read from the folder."""
         _, (command, _, *words) = line.parted()
         if command not in COMMANDS:
-            raise Fault(message("bad_command", command=command))
+            raise Fault.of("bad_command", command=command)
         paths = {word: os.path.join(self.folder, line.part, word)
                  for word in words if NAME.fullmatch(word)}
         given = {word: taken(path, self.checker.limit) for word, path in paths.items()
@@ -160,7 +160,7 @@ class Gathered:
             number = run[2] if run else chosen.get(f"--{option}")
             part = self.part_of(left[1], line.part, option)
             if number is not None and int(number) >= len(part.answers):
-                raise Fault(message("no_such_property", option=option, number=number))
+                raise Fault.of("no_such_property", option=option, number=number)
             claim = self.claim(line, part.source.subject.file)
             self.checker.check(claim)
             trace = trace_of(claim, run[1]) if run else None

@@ -109,20 +109,16 @@ class Signals:
               latches: set[int], changes: Mapping[int, Sequence[str]]) -> Iterator[str]:
         """Yields the lines of a trace: the initial values of `latches`, then for each step the
         inputs and, behind a bar, the `changes` of that step."""
-        yield spaced("start:", *self.values("l", trace.start, latches))
+        yield " ".join(["start:", *self.values("l", trace.start, latches)])
         steps, count = [], len(trace.steps[0])
         is_short = len(grouped(count, self.buses["i"])) <= MOST
         mattering = None if is_short else {i for i in range(count)
                                            if any(row[i] != "x" for row in trace.steps)}
         for t, inputs in enumerate(trace.steps):
-            steps.append(spaced(*self.values("i", inputs, mattering),
-                                *["|", *changes.get(t, [])] * bool(changes.get(t))))
+            changed = changes.get(t, [])
+            steps.append(" ".join([*self.values("i", inputs, mattering),
+                                   *["|", *changed] * bool(changed)]))
         yield from folded(steps)
-
-
-def spaced(*words: str) -> str:
-    """Returns the words, separated by spaces."""
-    return " ".join(words)
 
 
 def folded(steps: Iterable[str]) -> Iterator[str]:
@@ -138,5 +134,5 @@ def folded(steps: Iterable[str]) -> Iterator[str]:
         lines[FIRST:-LAST] = [(lines[FIRST][0],
                                lines[-LAST][0] - 1, "as --witness and --vcd write them")]
     for first, last, text in lines:
-        yield spaced(f"step {first}:" if first == last else f"steps {first} to {last}:",
-                     *[text] * bool(text))
+        span = f"step {first}:" if first == last else f"steps {first} to {last}:"
+        yield f"{span} {text}" if text else span

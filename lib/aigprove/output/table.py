@@ -80,7 +80,7 @@ class Table:
             sources.append(Covers(self.options, self.above, self.checker, self.first.given))
         sources += self.fair
         if not sources:
-            raise Fault(message("of_file", path=self.first.path, why=message(self.first.empty)))
+            raise Fault.of("of_file", path=self.first.path, why=message(self.first.empty))
         return sources
 
     def heading(self) -> list[str]:
@@ -167,7 +167,7 @@ class Table:
         found = Assumptions(self.sources[0].placed(ABOVE), self.checker)
         try:
             if not solver.words:
-                raise Fault(message("no_cadical"))
+                raise Fault.of("no_cadical")
             asked = Solver(solver.words, self.checker, self.above, solver.takes_turns)
             now, least = time.monotonic(), max(answer.steps for answer in self.answers)
             # If the time is over, this takes a moment more, and begins at the first step.

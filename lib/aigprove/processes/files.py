@@ -12,7 +12,6 @@ from collections.abc import Iterable, Iterator
 from typing import IO, TYPE_CHECKING
 
 from aigprove.circuits.aiger import LIMIT, Fault
-from aigprove.data import message
 from aigprove.output.messages import plain, tell
 
 if TYPE_CHECKING:
@@ -75,7 +74,7 @@ class Sealed:
             source = io.BytesIO(data) if isinstance(data, bytes) else data
             while block := source.read(BLOCK):
                 if most is not None and out.tell() + len(block) > most:
-                    raise Fault(message("many_bytes", path=path, most=most))
+                    raise Fault.of("many_bytes", path=path, most=most)
                 out.write(block)
         fcntl.fcntl(self.descriptor, fcntl.F_ADD_SEALS, SEALS)
 
@@ -122,13 +121,13 @@ def sealed(path: str, limit: int | None = None) -> Sealed:
     Raises Fault if it is a device, is empty, or is too large for `limit` nodes."""
     mode, most = os.stat(path).st_mode, NODE * max(limit or LIMIT, LIMIT)
     if stat.S_ISCHR(mode) or stat.S_ISBLK(mode):
-        raise Fault(message("device", path=path))
+        raise Fault.of("device", path=path)
     with open(path, "rb") as file:
         found = Sealed(file, path, most)
     if found.line(2) == PACKED:
         found = unpacked(found, path, most)
     if not found.line():
-        raise Fault(message("empty", path=path))
+        raise Fault.of("empty", path=path)
     return found
 
 
@@ -143,7 +142,7 @@ def unpacked(packed: Sealed, path: str, most: int) -> Sealed:
         with gzip.open(packed.path) as file:
             return Sealed(file, path, most)
     except (gzip.BadGzipFile, EOFError, zlib.error) as why:
-        raise Fault(message("of_file", path=path, why=why)) from None
+        raise Fault.of("of_file", path=path, why=why) from None
 
 
 def opened(path: str) -> IO[bytes]:
@@ -158,7 +157,7 @@ def write(path: str, pieces: Iterable[bytes], mode: str = "wb") -> None:
         with open(path, mode) as out:
             out.writelines(pieces)
     except OSError as why:
-        raise Fault(message("of_file", path=path, why=why.strerror)) from None
+        raise Fault.of("of_file", path=path, why=why.strerror) from None
 
 
 def entries_of(path: str) -> Iterator[tuple[str, os.stat_result]]:
@@ -233,13 +232,13 @@ class Folder:
         try:
             file = opened(self.place(name))
         except OSError:
-            raise Fault(message("no_file", what=what)) from None
+            raise Fault.of("no_file", what=what) from None
         with file:
             status = os.fstat(file.fileno())
             if not stat.S_ISREG(status.st_mode):
-                raise Fault(message("no_file", what=what))
+                raise Fault.of("no_file", what=what)
             if status.st_size > self.limit:
-                raise Fault(message("long_file", what=what))
+                raise Fault.of("long_file", what=what)
             return Sealed(file)
 
     def text(self, name: str, what: str) -> str:

@@ -7,7 +7,6 @@ from typing import TYPE_CHECKING
 
 from aigprove.circuits.aiger import Circuit, Fault, Header, Lines, decoded
 from aigprove.circuits.witness import Witness
-from aigprove.data import message
 from aigprove.designs.front_ends import BLIF, COVER, LIVE
 from aigprove.options.options import DesignOptions, Options
 from aigprove.output.signals import Signals, word
@@ -51,7 +50,7 @@ class BadStates(Properties):
         is_blif, own = BLIF in self.given.kinds, self.given.design
         self.is_old = is_old(self.given.line) and (not own or is_blif)
         if own and not is_blif and not (own.assertions or self.has_later(design.later)):
-            raise Fault(message("no_assertion", path=self.path, top=own.top))
+            raise Fault.of("no_assertion", path=self.path, top=own.top)
         self.is_by_outputs = self.is_old
         if self.is_old:
             self.subject, self.lines = Subject(self.given.file, ["--outputs"], ["bads"]), OF_OUTPUTS

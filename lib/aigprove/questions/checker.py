@@ -158,7 +158,7 @@ class Checker(NamedTuple):
         line = self.printed(*called).data().decode().rstrip("\n")
         found = LOOP.search(line)
         if not found:
-            raise Fault(message("other_line", line=repr(line)))
+            raise Fault.of("other_line", line=repr(line))
         return line, (int(found[1]), int(found[2]))
 
     def joint(self, file: Sealed, certificate: Sealed, is_needed: bool) -> Sealed | None:
@@ -202,7 +202,7 @@ class Checker(NamedTuple):
         if status != 0 and not said.endswith(STEP):
             raise Fault(said or f"{self.aigcheck[0]} {ending(status)}")
         if status == 0 and printed != claim.line + "\n":
-            raise Fault(message("other_line", line=repr(printed)))
+            raise Fault.of("other_line", line=repr(printed))
         return said if status else None
 
     def shows(self, claim: Claim) -> bool:

@@ -6,8 +6,9 @@ for. aigcheck generates the clauses; here names are only printed."""
 import re
 from collections.abc import Iterable
 
-from aigprove.circuits.aiger import Circuit, Gates
+from aigprove.circuits.aiger import Circuit
 from aigprove.circuits.certificates import STANDS
+from aigprove.circuits.gates import Gates
 from aigprove.data import message
 from aigprove.processes.files import Sealed
 from aigprove.questions.checker import Condition, Query, Question

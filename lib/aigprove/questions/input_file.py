@@ -49,7 +49,7 @@ class InputFile:
         self.check_kinds(paths, options)
         self.design: Design | None = None
         if not self.kinds[0] and not self.given[0].line().startswith(b"a"):
-            raise Fault(message("unknown_kind", path=paths[0], ends=ENDS))
+            raise Fault.of("unknown_kind", path=paths[0], ends=ENDS)
         if self.kinds[0]:
             files = [File(path, file.data()) for path, file in zip(paths, self.given)]
             try:
@@ -78,14 +78,14 @@ class InputFile:
         that the files' kind doesn't have."""
         for path, kind in zip(paths, self.kinds):
             if not kind and len(paths) > 1:
-                raise Fault(message("not_of_design", path=path, ends=ENDS))
+                raise Fault.of("not_of_design", path=path, ends=ENDS)
         for option, of in OF_DESIGNS.items():
             given, known = getattr(options, option), of or FRONTS.values()
             if given and not any(kind and FRONTS[kind] in known for kind in self.kinds):
                 kind = "not_design_top" if option == "top" else \
                     "not_verilog" if of else "not_design"
-                raise Fault(message(kind, path=self.path, value=given,
-                                    option=option.replace("_", "-")))
+                raise Fault.of(kind, path=self.path, value=given,
+                               option=option.replace("_", "-"))
 
     def header(self) -> Header:
         """Returns the header of the file in AIGER format."""

@@ -11,7 +11,6 @@ from typing import TYPE_CHECKING
 
 from aigprove.circuits.aiger import Circuit, Fault
 from aigprove.circuits.witness import Witness
-from aigprove.data import message
 from aigprove.designs.front_ends import FAIR, LIVE
 from aigprove.output import waves
 from aigprove.processes.files import Sealed
@@ -39,12 +38,12 @@ class Justice(Properties):
         super().__init__(given)
         design = given.design
         if design and not (design.has_lives and design.assertions):
-            raise Fault(message("no_liveness", path=self.path, top=design.top))
+            raise Fault.of("no_liveness", path=self.path, top=design.top)
 
     def one(self, number: int, above: str = "") -> Justice:
         """Returns one of the properties. Raises Fault if there is none with this number."""
         if number >= self.given.header().justice:
-            raise Fault(message("no_justice", path=self.path))
+            raise Fault.of("no_justice", path=self.path)
         made = super().one(number, above)
         made.so_far, made.nothing = f"no fair lasso of j{number}", f"nothing was shown of j{number}"
         made.told = Statements(*(f"live: {line}" for line in Statements()))
