@@ -29,7 +29,7 @@ def end(number: int, _: object) -> NoReturn:
     sys.exit(128 + number)
 
 
-def hush(stream: IO[str], number: int) -> None:
+def discard_rest(stream: IO[str], number: int) -> None:
     """Discards what couldn't be written to a stream, so that Python doesn't try again at the
     end."""
     try:
@@ -66,7 +66,7 @@ def main() -> NoReturn:
     except Exception as error:
         report(error, not {"-v", "--verbose"}.isdisjoint(sys.argv))
         status = FAILED
-    hush(sys.stdout, 1)
-    hush(sys.stderr, 2)
+    discard_rest(sys.stdout, 1)
+    discard_rest(sys.stderr, 2)
     # Threads that still run aren't awaited.
     os._exit(status)

@@ -33,7 +33,7 @@ from aigprove.designs.front_ends import (
 )
 from aigprove.designs.modules import Cell
 from aigprove.designs.names import Hierarchy, Module, Names, Net, Shape, Trees, Use, nodes, warned
-from aigprove.designs.reading import ReadDesign, asked_below
+from aigprove.designs.reading import ReadDesign, assertions_below
 from aigprove.designs.rtlil import Statement, modules_of, parse, write
 from aigprove.designs.verilog import Design, place_of
 from aigprove.designs.yosys import LONGEST, Yosys
@@ -471,7 +471,7 @@ class Told:
     def design(self, name: str) -> Statement:
         return self.designs[name]
 
-    def told(self, said: str) -> str:
+    def readable(self, said: str) -> str:
         return said.replace("t.v", "my.v")
 
 
@@ -905,7 +905,7 @@ def test_files_of(checks: Checks, folder: pathlib.Path) -> None:
     )
     checks.wants("so long", 1000, LONGEST)
     yosys.meanings = {"/fd/1": "a\nb", "/fd/12": "c", "/fd/12/d": "e\x1b"}
-    checks.wants("told", "e\\x1b c/x a\\x0ab 3", yosys.told("/fd/12/d /fd/12/x /fd/1 3"))
+    checks.wants("told", "e\\x1b c/x a\\x0ab 3", yosys.readable("/fd/12/d /fd/12/x /fd/1 3"))
 
 
 WARNINGS = """/fd/1/0/source/design.v:3: Warning: Range select
@@ -1045,7 +1045,7 @@ def test_reads(checks: Checks, folder: pathlib.Path) -> None:
         place = re.sub(
             r"FD(\d)", lambda found: f"/proc/self/fd/{yosys.descriptors[int(found[1])]}", name
         )
-        checks.wants(name, meaning, yosys.told(place))
+        checks.wants(name, meaning, yosys.readable(place))
     failing, _ = a_yosys(folder, lambda *_: ("ERROR: early\n", 1, False))
     checks.wants("not ready", "ERROR: early", refused(failing.read, script, [], texts))
     ready, _ = a_yosys(folder, lambda *_: ("ERROR: later\n", 1, True))
@@ -1172,7 +1172,7 @@ def test_one_reading(checks: Checks, folder: pathlib.Path) -> None:
     checks.wants(
         "what there is", ("top", [], False, False, "", "", scripts.FLAT),
         (
-            design.top, design.left_out, design.has_covers, design.has_lives, design.partial,
+            design.top, design.unchecked, design.has_covers, design.has_lives, design.partial,
             design.memories, design.flat,
         ),
     )
@@ -1382,7 +1382,8 @@ def test_rewriting(checks: Checks, folder: pathlib.Path) -> None:
         wanted in open(design.yosys.place("0/source/design.v"), "rb").read(),
         "the text isn't written otherwise",
     )
-    checks.wants("its place", ("t.v:3", "x"), (design.told("t.v:3.120-4.9"), design.told("x")))
+    locations = [design.location(place) for place in ("t.v:3.120-4.9", "x")]
+    checks.wants("its place", ["t.v:3", "x"], locations)
     # Each later reading takes the same texts, and a fault of it is its own.
     other = asserting("\\top", ("$cover", "\\c")) + asserting("\\better", ("$assert", "\\a"))
     reader = Reader(folder, unread, (other, asserting("\\top"), ""), ONE, expanded=shown)
@@ -1467,10 +1468,10 @@ def test_tops(checks: Checks, folder: pathlib.Path) -> None:
         ("", "liveness assertion other (t.v:12.3-12.9) is not asked about"),
         ("", "assumption other.as (t.v:13.3-13.9) is not asked about"),
     ]
-    checks.wants("left out", wanted, design.left_out)
+    checks.wants("left out", wanted, design.unchecked)
     checks.wants("kinds", ("top", True, True), (design.top, design.has_covers, design.has_lives))
     design = Reader(folder, (whole + other, whole, "")).read(multiclock=True)
-    lived = [line for _, line in design.left_out if "liveness" in line or "fairness" in line]
+    lived = [line for _, line in design.unchecked if "liveness" in line or "fairness" in line]
     checks.wants(
         "with several clocks", (False, True),
         (
@@ -1481,14 +1482,14 @@ def test_tops(checks: Checks, folder: pathlib.Path) -> None:
     checks.wants(
         "and kinds",
         [("", "fairness assumption top.f (t.v:15.3-15.9) is not asked about with --multiclock")],
-        [it for it in design.left_out if "fairness" in it[1]],
+        [it for it in design.unchecked if "fairness" in it[1]],
     )
     reader = Reader(folder, (whole + other, whole, ""))
     design = reader.read(top="top")
     checks.wants(
         "a top that is named", (True, "hierarchy -check -top top"),
         (
-            all("top module" not in line for _, line in design.left_out),
+            all("top module" not in line for _, line in design.unchecked),
             reader.scripts(design)[0][2],
         ),
     )
@@ -1521,7 +1522,7 @@ def test_tops(checks: Checks, folder: pathlib.Path) -> None:
                 [script[2].removeprefix("hierarchy -check ") for script in reader.scripts(design)],
             ),
         )
-        told = [line for kind, line in design.left_out if "top module" in line]
+        told = [line for kind, line in design.unchecked if "top module" in line]
         checks.wants(
             "others",
             [
@@ -1536,7 +1537,7 @@ def test_tops(checks: Checks, folder: pathlib.Path) -> None:
     checks.wants(
         "asked below", [3, 1, 0],
         [
-            asked_below(cells_of_all(whole + other), names)
+            assertions_below(cells_of_all(whole + other), names)
             for names in [{"top", "low"}, {"low"}, set()]
         ],
     )

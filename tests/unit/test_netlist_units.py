@@ -15,7 +15,7 @@ from harness import Checks
 
 from aigprove.designs import modules, netlist
 from aigprove.designs.internal import without_internal
-from aigprove.designs.modules import opened
+from aigprove.designs.modules import free_unknowns
 from aigprove.designs.ordering import Assertion, order_of, ordered
 from aigprove.designs.registers import widened
 from aigprove.designs.rtlil import Statement, modules_of, parse, write
@@ -85,7 +85,7 @@ WITHOUT = """  process $p
       update \\q $0\\q
   end
 """
-LET_GO = [
+DROPPED = [
     ("  wire width 4 \\v\n" + EDGES.format("4'x", "posedge \\rst"), True),
     (
         "  attribute \\init 4'0000\n  wire width 4 \\v\n" + EDGES.format("4'x", "posedge \\rst"),
@@ -591,20 +591,21 @@ def test_opened(checks: Checks, part: str, widths: list[int], wanted: str) -> No
     """What isn't driven, or is x, becomes a wire of its own, which may have any value."""
     wires = "".join(f"  wire width {width} $free${i}\n" for i, width in enumerate(widths, 1))
     head = HEAD.lstrip().replace("module \\top\n", f"module \\top\n{wires}")
-    checks.wants(part, f"{head}{wanted}end\n", changed(opened, f"{HEAD}{part}end\n"))
+    checks.wants(part, f"{head}{wanted}end\n", changed(free_unknowns, f"{HEAD}{part}end\n"))
 
 
 @pytest.mark.parametrize("part", STAYS)
 def test_opened_stays(checks: Checks, part: str) -> None:
     """What stays as it is."""
-    checks.wants(part, f"{HEAD.lstrip()}{part}end\n", changed(opened, f"{HEAD}{part}end\n"))
+    checks.wants(part, f"{HEAD.lstrip()}{part}end\n", changed(free_unknowns, f"{HEAD}{part}end\n"))
 
 
-@pytest.mark.parametrize("part, is_dropped", LET_GO)
-def test_let_go(checks: Checks, part: str, is_dropped: bool) -> None:
-    """Edges of a process that can be let go."""
+@pytest.mark.parametrize("part, is_dropped", DROPPED)
+def test_dropped_updates(checks: Checks, part: str, is_dropped: bool) -> None:
+    """Updates to x at edges of a process that are dropped."""
     kept = changed(
-        lambda design: [modules.let_go(it) for it in design.of("module")], f"{HEAD}{part}end\n"
+        lambda design: [modules.drop_unknown_updates(it) for it in design.of("module")],
+        f"{HEAD}{part}end\n",
     )
     wanted = part.replace(EDGES.format("4'x", "posedge \\rst"), WITHOUT) if is_dropped else part
     checks.wants(part, f"{HEAD.lstrip()}{wanted}end\n", kept)
@@ -662,7 +663,7 @@ def test_settled(
     text, made = (
         "".join(f"{indent}assign {line}\n" for line in given) for given in (lines, wanted)
     )
-    again = changed(opened, f"module \\top\n  process $p\n{switch}{text}{behind}  end\nend\n")
+    again = changed(free_unknowns, f"module \\top\n  process $p\n{switch}{text}{behind}  end\nend\n")
     checks.wants(
         lines,
         f"  process $p\n{switch}{made}{behind}  end\nend\n",
@@ -677,7 +678,7 @@ def test_parallel_case(checks: Checks) -> None:
         "    switch \\s\n    end\n  end\n"
     )
     wanted = f"{HEAD.lstrip()}{case}end\n".replace("    attribute \\parallel_case 1\n", "")
-    checks.wants("a case that is parallel", wanted, changed(opened, f"{HEAD}{case}end\n"))
+    checks.wants("a case that is parallel", wanted, changed(free_unknowns, f"{HEAD}{case}end\n"))
 
 
 @pytest.mark.parametrize("part, wanted", GIVEN_ONCE)

@@ -253,7 +253,7 @@ class Circuit:
             gate = max(why.args[1])
             raise Fault.of("cyclic_gate", literal=gate, what=self.what) from None
 
-    def opened(self) -> list[int]:
+    def uninitialised(self) -> list[int]:
         """Returns the positions of the uninitialised latches."""
         return [i for i, reset in enumerate(self.resets) if reset > 1]
 

@@ -12,14 +12,14 @@ Place = tuple[int, int]
 AT_ONCE, SMALL = 1 << 11, 1 << 18
 
 
-def places_of(trace: Witness, opened: Iterable[int]) -> list[Place]:
+def places_of(trace: Witness, uninitialised: Iterable[int]) -> list[Place]:
     """Returns the places of the values of a trace that may be left out.
 
     A place is 0 and the position of one of these latches, or t + 1 and that of an input in step
     t."""
     inputs = [(t, i) for i in range(len(trace.steps[0])) for t in range(1, len(trace.steps) + 1)]
     rows = [trace.start, *trace.steps]
-    return [(t, i) for t, i in [*((0, i) for i in opened), *inputs] if rows[t][i] != "x"]
+    return [(t, i) for t, i in [*((0, i) for i in uninitialised), *inputs] if rows[t][i] != "x"]
 
 
 def without(trace: Witness, places: Iterable[Place]) -> Witness:
@@ -32,13 +32,13 @@ def without(trace: Witness, places: Iterable[Place]) -> Witness:
 
 
 def simulated(circuit: Circuit, trace: Witness,
-              opened: Iterable[int], bads: Sequence[int], seconds: float) -> Witness:
+              uninitialised: Iterable[int], bads: Sequence[int], seconds: float) -> Witness:
     """Returns a trace with x for as many values as possible that don't matter for these bad states,
     found within a number of seconds of processor time.
 
     Many trials are simulated at once. Leaving out more values never makes more values known. So a
     value that can't be left out by itself never can, and of several in a row a first part can."""
-    until, places = time.thread_time() + seconds, places_of(trace, opened)
+    until, places = time.thread_time() + seconds, places_of(trace, uninitialised)
     gone: list[Place] = []
 
     def shown(left: Sequence[Place], trials_of: Callable[[int, int], int]) -> int:
@@ -61,13 +61,13 @@ def simulated(circuit: Circuit, trace: Witness,
     return without(trace, gone)
 
 
-def minimal(trace: Witness,
-            opened: Iterable[int], holds: Callable[[Witness], bool], seconds: float) -> Witness:
+def minimal(trace: Witness, uninitialised: Iterable[int], holds: Callable[[Witness], bool],
+            seconds: float) -> Witness:
     """Returns a trace with x for as many values as possible, so that it still `holds`.
 
     They are found by bisection, until no single value of an input, or of these latches initially,
     can be left out, or the time is over."""
-    parts, until = [places_of(trace, opened)], time.monotonic() + seconds
+    parts, until = [places_of(trace, uninitialised)], time.monotonic() + seconds
     while parts and time.monotonic() < until:
         part = parts.pop()
         tried = without(trace, part)

@@ -71,7 +71,7 @@ def of_abc(text: str, circuit: Circuit) -> tuple[str, list[str]] | None:
     if not rows or any(len(row) < count for row in rows):
         return None
     start = ["1" if reset == 1 else "0" for reset in circuit.resets]
-    for i, given in zip(circuit.opened(), rows[0][count:]):
+    for i, given in zip(circuit.uninitialised(), rows[0][count:]):
         start[i] = given
     return "".join(start), [row[:count] for row in rows]
 
@@ -125,11 +125,11 @@ class NormalisedModel:
 
     def __init__(self, circuit: Circuit, is_apart: bool = False) -> None:
         self.circuit = circuit
-        self.opened = circuit.opened()
+        self.uninitialised = circuit.uninitialised()
         count = len(circuit.inputs)
-        self.inputs = [f"i{i}" for i in range(count)] + [f"r{i}" for i in self.opened]
+        self.inputs = [f"i{i}" for i in range(count)] + [f"r{i}" for i in self.uninitialised]
         self.latches = [f"l{i}" for i in range(len(circuit.latches))]
-        self.latches += [BEGAN] * bool(self.opened) + [BROKEN] * bool(circuit.constraints)
+        self.latches += [BEGAN] * bool(self.uninitialised) + [BROKEN] * bool(circuit.constraints)
         self.latches = self.latches or [SPARE]
         first = 2 * (len(self.inputs) + 1)
         self.places = {name: first + 2 * i for i, name in enumerate(self.latches)}
@@ -142,14 +142,14 @@ class NormalisedModel:
                      for bad in (bads if is_apart else [self.gates.any(bads)])]
         self.nexts = [literal(next) ^ (reset == 1)
                       for next, reset in zip(circuit.nexts, circuit.resets)]
-        self.nexts += [1] * bool(self.opened)
+        self.nexts += [1] * bool(self.uninitialised)
         self.nexts += [self.gates.both(broken ^ 1, allowed) ^ 1] * bool(circuit.constraints)
         self.nexts = self.nexts or [0]
 
     def leaves(self) -> dict[int, int]:
         """Returns the literals of the circuit's inputs and latches in the model."""
         leaves = {literal: 2 * (i + 1) for i, literal in enumerate(self.circuit.inputs)}
-        free = {i: 2 * (len(self.circuit.inputs) + 1 + n) for n, i in enumerate(self.opened)}
+        free = {i: 2 * (len(self.circuit.inputs) + 1 + n) for n, i in enumerate(self.uninitialised)}
         for i, (literal, reset) in enumerate(zip(self.circuit.latches, self.circuit.resets)):
             place = self.places[f"l{i}"]
             leaves[literal] = place ^ (reset == 1)
@@ -192,7 +192,7 @@ class NormalisedModel:
         if excluded is None:
             return None
         bad = gates.any(map(gates.all, excluded))
-        if self.opened:
+        if self.uninitialised:
             bad = gates.both(bad, gates.all(
                 latch ^ (reset == 0) for latch, reset in zip(latches, resets) if reset < 2) ^ 1)
         states = [(latch, latch, reset if reset < 2 else latch)

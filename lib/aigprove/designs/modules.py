@@ -37,7 +37,7 @@ UNNAMED = "unnamed_block"
 PATH = re.compile(r'[^\s"\\]+( [^\s"\\]+)+')
 
 
-def opened(design: Statement) -> None:
+def free_unknowns(design: Statement) -> None:
     """Replaces each `x` of a design by an undriven wire.
 
     The value of a disabled assertion or memory write becomes 0 first, and the attribute
@@ -45,12 +45,12 @@ def opened(design: Statement) -> None:
     for module in design.of("module"):
         for it in module.all():
             it.attributes.pop(PARALLEL, None)
-            settle(it)
-        let_go(module)
+            clear_disabled(it)
+        drop_unknown_updates(module)
         free(module)
 
 
-def settle(block: Statement) -> None:
+def clear_disabled(block: Statement) -> None:
     """Sets values that are `x` while their enable net is 0 to 0, in the statements of one block."""
     for it, *behind in zip(block.body, *(block.body[i:] + [block] * i for i in (1, 2))):
         if it.kind == "assign" and UNREACHED.match(it.text) and any(map(is_disabled, behind)):
@@ -69,7 +69,7 @@ def is_disabled(statement: Statement) -> bool:
     return ENABLE in spelled(target) and bool(bits) and not bits.strip("0")
 
 
-def let_go(module: Statement) -> None:
+def drop_unknown_updates(module: Statement) -> None:
     """Removes assignments of `x` at every edge of a process, if nothing else in the module uses the
     net.
 
@@ -108,7 +108,7 @@ def valued(module: Statement) -> Iterator[Statement]:
             yield from (own for own in it.all() if own.kind in VALUED)
 
 
-def is_open(part: Part) -> bool:
+def has_unknown(part: Part) -> bool:
     """Returns whether a part of a signal has an `x` bit and no `z` bit."""
     return "x" in part.bits and "z" not in part.bits
 
@@ -128,7 +128,7 @@ def free(module: Statement) -> None:
         if "x" in it.text:
             signals = it.signals()
             made: list[Signal] = [[own for part in signal
-                                   for own in (freed(part) if is_open(part) else [part])]
+                                   for own in (freed(part) if has_unknown(part) else [part])]
                                   for signal in signals]
             if made != signals:
                 it.put(made)

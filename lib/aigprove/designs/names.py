@@ -319,7 +319,8 @@ class Names:
         """Returns the exception that says that a name isn't declared or, for a path, can't be
         read."""
         kind = "not_read" if "." in net.name else "not_declared"
-        return Fault(self.yosys.told(message(kind, place=net.place, name=net.name[1:], why=why)))
+        line = message(kind, place=net.place, name=net.name[1:], why=why)
+        return Fault(self.yosys.readable(line))
 
     def declare(self, hierarchy: Hierarchy, kind: str, net: Net) -> None:
         """Declares an undeclared net of a module. Raises Fault if its meaning isn't clear."""

@@ -13,7 +13,8 @@ from aigprove.designs import modules, scripts
 from aigprove.designs.front_ends import (AGAIN, ASSERT, COVER, DECLARED, EXPANDING, FAIR, FRONTS,
                                          LIVE, LOOKING, STRICT, VERILOG, File, TranslationTimeout,
                                          Way)
-from aigprove.designs.modules import BOX, JOINED, TOP, Cell, base_of, opened, source_of, types_of
+from aigprove.designs.modules import (BOX, JOINED, TOP, Cell, base_of, free_unknowns, source_of,
+                                      types_of)
 from aigprove.designs.registers import widened
 from aigprove.designs.rtlil import Statement, modules_of, write
 from aigprove.designs.sensitivity import lacking
@@ -24,12 +25,12 @@ from aigprove.processes.scheduler import Task
 
 KINDS = {"$assert": "assertion", "$assume": "assumption",
          "$cover": "cover", "$live": "liveness assertion", "$fair": "fairness assumption"}
-ASKED = ("$assert", "$assume")
+CHECKED = ("$assert", "$assume")
 WORD = re.compile(r"[A-Za-z_][A-Za-z0-9_$]*")
 # The lines and columns at the end of a source location.
 COLUMNS = re.compile(r":([0-9]+)\.[0-9]+-[0-9]+\.[0-9]+$")
 # The greatest number of blocks of a text that are reported for incomplete sensitivity lists.
-NOTICED = 20
+MOST_NOTES = 20
 # Errors about constructs that yosys doesn't read, and that may be rewritten.
 UNREAD = re.compile("ERROR: (?:syntax error|System task|Can't resolve task name)")
 # The error about two assertions with one label in a module, as generate blocks have them.
@@ -43,7 +44,7 @@ HINTS = {
 }
 
 
-def asked_below(cells: Iterable[Cell], modules: Container[str]) -> int:
+def assertions_below(cells: Iterable[Cell], modules: Container[str]) -> int:
     """Returns how many assertions and liveness assertions are in these modules."""
     return sum(cell.type in (ASSERT, LIVE) and cell.module[1:] in modules for cell in cells)
 
@@ -74,10 +75,10 @@ class ReadDesign:
         self.unmarked: dict[str, bytes] | None
         # Notes about incomplete sensitivity lists; whether assertions in generate blocks are marked
         # (see `labels`); and the texts as they were before that.
-        self.noticed: list[str] = []
+        self.notes: list[str] = []
         self.is_marked, self.unmarked = False, None
         try:
-            self.left_out = self.read(options.top)
+            self.unchecked = self.read(options.top)
         except Fault:
             # If yosys itself has failed, its error is more helpful.
             if self.reading:
@@ -91,10 +92,10 @@ class ReadDesign:
         others = [] if top else [name for name in modules.roots_of(every) if name not in below]
         # If the top module that yosys chooses has no assertion below it, the one with most
         # assertions is chosen, the last of several.
-        better = max(reversed(others),
-                     key=lambda name: asked_below(every, modules.reached(every, name)), default="")
-        is_better = asked_below(every, modules.reached(every, better)) and WORD.fullmatch(better)
-        if not asked_below(every, below) and is_better:
+        counts = {name: assertions_below(every, modules.reached(every, name)) for name in others}
+        better = max(reversed(others), key=counts.__getitem__, default="")
+        is_better = counts.get(better) and WORD.fullmatch(better)
+        if not assertions_below(every, below) and is_better:
             others = [name for name in modules.roots_of(every) if name != better]
             self.read_on()
             every, below = self.read_below(f"-top {better}")
@@ -104,7 +105,7 @@ class ReadDesign:
             every, below = self.read_below(f"-top {self.top}{self.parameters()}")
         lines = [("", message("other_top", name=name)) for name in others]
         return lines + [line for cell in every
-                        for line in self.passed_over(cell, cell.module[1:] in below)]
+                        for line in self.lines_of_unchecked(cell, cell.module[1:] in below)]
 
     def script(self, top: str, way: Way, made: str,
                is_ready: str, copies: Mapping[str, str], folders: Iterable[str]) -> str:
@@ -141,11 +142,11 @@ class ReadDesign:
         try:
             design = self.declared(top)
         except Fault as why:
-            told = self.yosys.told(str(why))
-            hints = (hint for said, hint in HINTS.items() if said in told)
-            raise type(why)("; ".join([told, *hints])) from None
+            readable = self.yosys.readable(str(why))
+            hints = (hint for said, hint in HINTS.items() if said in readable)
+            raise type(why)("; ".join([readable, *hints])) from None
         if place := modules.item_of_x(design):
-            raise Fault.of("x_item", place=self.yosys.told(place))
+            raise Fault.of("x_item", place=self.yosys.readable(place))
         found, types = modules_of(design), types_of(design)
         modules.check_constants(found)
         below = {base_of(name) for name in found}
@@ -163,7 +164,7 @@ class ReadDesign:
         self.free_boxes(found, types)
         for module in found.values():
             modules.renamed(module)
-        opened(design)
+        free_unknowns(design)
         widened(design)
         self.yosys.put("below.il", write(design))
         return list(modules.cells_of(self.every())), below
@@ -293,11 +294,11 @@ class ReadDesign:
         found, nets = modules_of(whole), collections.defaultdict[str, set[str]](set)
         for name, module in found.items():
             nets[source_of(name)] |= {it.name[1:] for it in module.of("wire")}
-        self.noticed = []
+        self.notes = []
         for text in texts:
             text.check(nets)
-            self.noticed += [self.yosys.told(str(text.fault(offset, why)))
-                             for offset, why in itertools.islice(lacking(text, nets), NOTICED)]
+            self.notes += [self.yosys.readable(str(text.fault(offset, why)))
+                           for offset, why in itertools.islice(lacking(text, nets), MOST_NOTES)]
         return found
 
     def looked_up(self, top: str) -> Statement:
@@ -347,22 +348,22 @@ class ReadDesign:
             elif BOX in own.attributes and name in types:
                 raise Fault.of("black_box", name=base_of(name))
 
-    def told(self, place: str) -> str:
+    def location(self, place: str) -> str:
         """Returns a source location in the user's files. Columns are left out if the text was
         rewritten."""
-        told = self.yosys.told(place)
-        return COLUMNS.sub(r":\1", told) if self.rewritten else told
+        readable = self.yosys.readable(place)
+        return COLUMNS.sub(r":\1", readable) if self.rewritten else readable
 
-    def passed_over(self, cell: Cell, is_below: bool) -> Iterator[tuple[str, str]]:
+    def lines_of_unchecked(self, cell: Cell, is_below: bool) -> Iterator[tuple[str, str]]:
         """Yields a line about a property that isn't checked now, with its cell type if another
         query checks it.
 
         Checked are assertions and assumptions below the top module, later also covers and, with one
         clock, liveness."""
-        if cell.type in KINDS and not (is_below and cell.type in ASKED):
+        if cell.type in KINDS and not (is_below and cell.type in CHECKED):
             is_later = is_below and (cell.type == COVER or self.has_lives)
             why = " with --multiclock" * (self.options.multiclock and cell.type in (LIVE, FAIR))
-            what = f"{KINDS[cell.type]} {cell.label} ({self.told(cell.place)})"
+            what = f"{KINDS[cell.type]} {cell.label} ({self.location(cell.place)})"
             line = message("not_asked", what=what, option=why)
             yield cell.type if is_later else "", line
 

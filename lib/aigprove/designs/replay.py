@@ -191,7 +191,7 @@ class Replay:
         is how its line begins."""
         if any(it.startswith(name) for it in failed):
             return None
-        return f"{design.yosys.told(' and '.join(failed)) or 'none'} fails"
+        return f"{design.yosys.readable(' and '.join(failed)) or 'none'} fails"
 
     def differing(self, circuit: Circuit,
                   held: Mapping[str, str], words: Mapping[str, str]) -> str | None:

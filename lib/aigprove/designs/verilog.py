@@ -64,7 +64,7 @@ class Design(ReadDesign):
             # Some passes of yosys recurse without end in a combinational loop.
             loop = netlist.loop_in(self.top_of("drawn.json")[1]) if BROKEN in str(why) else []
             if not loop:
-                raise type(why)(self.yosys.told(str(why))) from None
+                raise type(why)(self.yosys.readable(str(why))) from None
             raise Fault.of("loop", top=self.top, names=", ".join(loop)) from None
 
     def make(self) -> None:
@@ -135,9 +135,10 @@ class Design(ReadDesign):
     def in_order(self, given: Sequence[Assertion]) -> list[Assertion]:
         """Sorts the properties of the file by the design's text, and returns their assertions in
         that order."""
-        told = [it._replace(place=self.yosys.told(it.place)) for it in given]
+        readable = [it._replace(place=self.yosys.readable(it.place)) for it in given]
+        paths = [plain(os.fsencode(file.path)) for file in self.files]
         # `order` has, for each property, its index in the file that yosys wrote.
-        order = self.order = order_of(told, [plain(os.fsencode(file.path)) for file in self.files])
+        order = self.order = order_of(readable, paths)
         if order != sorted(order):
             path = self.yosys.place("design.aig")
             with open(path, "rb") as file:
@@ -169,16 +170,16 @@ class Design(ReadDesign):
 
     def named(self) -> list[tuple[str, str]]:
         """Returns the name and the source location of each property's assertion."""
-        return [(f"{self.top}.{it.path}" if it.path else "", self.told(it.place))
+        return [(f"{self.top}.{it.path}" if it.path else "", self.location(it.place))
                 for it in self.assertions]
 
     def assertion(self, number: int) -> tuple[str, str]:
         """Returns a line that names the assertion of a property, and the assertion's text."""
         it = self.assertions[number]
-        own, place = f".{it.path}" if it.path else "", self.told(it.place)
+        own, place = f".{it.path}" if it.path else "", self.location(it.place)
         said = f" ({place})" if place else ""
         return f"{KINDS[self.options.kind]} {self.top}{own}{said}", \
-            self.spelled(self.yosys.told(it.place))
+            self.spelled(self.yosys.readable(it.place))
 
     def spelled(self, place: str) -> str:
         """Returns the text at a source location as one line, or "" if the location isn't in a file

@@ -38,7 +38,7 @@ REFUSED = re.compile(r"^(.*): ERROR: Identifier `(\S+)' is implicitly declared a
                      r"`default_nettype is set to none\.", re.MULTILINE)
 WARNED = re.compile(r"^(.*): Warning: Identifier `(\S+)' is implicitly declared\.$", re.MULTILINE)
 # The warnings that aren't passed on, with the reason.
-HUSHED = {
+IGNORED = {
     "The network is combinational":
     "ABC says it of the gates that FREE and WRITE give it, of any design",
     "Identifier `.*' is implicitly declared":
@@ -164,7 +164,7 @@ class Yosys:
         modules: dict[str, Json] = json.loads(self.text(name))["modules"]
         return modules
 
-    def told(self, said: str) -> str:
+    def readable(self, said: str) -> str:
         """Returns a message of yosys with the user's paths, and with descriptions for generated
         names."""
         said = without_internal(said)
@@ -182,9 +182,10 @@ class Yosys:
     def warned(self, said: str) -> None:
         """Records the warnings in what yosys printed, each as one line."""
         for place, text in WARNING.findall(said):
-            line = message("yosys_warns", place=self.told(place) if place else self.path,
-                           warning=" ".join(self.told(text).split()))
-            if line not in self.warnings and not any(re.match(hushed, text) for hushed in HUSHED):
+            line = message("yosys_warns", place=self.readable(place) if place else self.path,
+                           warning=" ".join(self.readable(text).split()))
+            is_ignored = any(re.match(pattern, text) for pattern in IGNORED)
+            if line not in self.warnings and not is_ignored:
                 self.warnings.append(line)
 
     def read(self, script: Script, folders: Sequence[str], texts: Texts) -> Run:
@@ -192,24 +193,25 @@ class Yosys:
 
         Relative paths in the design start at the present folder. `folders` are include folders.
         Raises Fault if yosys fails before it is ready."""
-        ready, told = os.pipe()
+        ready, writing = os.pipe()
         with open(ready, "rb", buffering=0) as waiting:
-            with open(told, "wb"):
-                run = self.begin_reading(script, folders, texts, told)
+            with open(writing, "wb"):
+                run = self.begin_reading(script, folders, texts, writing)
             # If the run ends before it is ready, the pipe is empty.
             if not waiting.read(1):
                 run.printed()
         return run
 
-    def begin_reading(self, script: Script, folders: Sequence[str], texts: Texts, told: int) -> Run:
-        """Starts that run. It reports that it is ready through the descriptor `told`."""
+    def begin_reading(self, script: Script, folders: Sequence[str], texts: Texts,
+                      writing: int) -> Run:
+        """Starts that run. It reports that it is ready through the descriptor `writing`."""
         with contextlib.ExitStack() as opened:
             descriptors = [os.open(path, os.O_PATH | os.O_DIRECTORY)
                            for path in [self.folder, *self.beside, *folders]]
             for descriptor in descriptors:
                 opened.callback(os.close, descriptor)
             is_ready, made, *paths = (f"/proc/self/fd/{descriptor}"
-                                      for descriptor in [told, *descriptors])
+                                      for descriptor in [writing, *descriptors])
             copies = {path: f"{made}/{copy}" for path, copy in self.copies.items()}
             sources = {f"{made}/{i}/source": path for i, path in enumerate(self.beside)}
             self.meanings = {**dict(zip(paths, [*self.beside, *folders])),
@@ -217,7 +219,7 @@ class Yosys:
             self.descriptors, self.warnings = descriptors, []
             self.fill(texts(descriptors))
             self.put_script("read.ys", script(made, is_ready, copies, paths))
-            run = Run(self, ["yosys", f"{made}/read.ys"], pass_fds=[told, *descriptors])
+            run = Run(self, ["yosys", f"{made}/read.ys"], pass_fds=[writing, *descriptors])
         return run
 
     def begin(self, script: str, **words: str) -> Run:
@@ -292,7 +294,7 @@ class Run:
             raise full(self.yosys.folder)
         if status != 0:
             why = [line for line in said.splitlines() if "ERROR: " in line]
-            raise Fault(self.yosys.told(why[0]) if why
+            raise Fault(self.yosys.readable(why[0]) if why
                         else message("yosys_ended", ending=ending(status)))
         self.yosys.warned(said)
         return said

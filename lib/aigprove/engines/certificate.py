@@ -97,7 +97,7 @@ class Certificate:
         steps."""
         for name in [name for name in conditions.questions() if name in solutions][:1]:
             given = self.checker.circuit(self.certificate, "the certificate")
-            conditions.with_open_resets(given, name == "base")
+            conditions.with_free_resets(given, name == "base")
             text = self.checker.text(Sealed(given.text()))
             circuit = self.checker.circuit(text, "the certificate")
             # The names refer to the literals of the file as it is given.

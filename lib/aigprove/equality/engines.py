@@ -69,7 +69,7 @@ class CorrespondingRegisters:
         fails."""
         task, solver = self.job.task, self.job.options.solver
         asked = {"solver": solver.words, "is_cadical": solver.is_cadical,
-                 "limit": self.job.checker.limit, "alike": self.pair.started(),
+                 "limit": self.job.checker.limit, "equal_starts": self.pair.started(),
                  "counts": self.pair.latches(), **self.further}
         with Folder(self.job.above) as folder:
             with folder.make("file.aag") as out:

@@ -31,16 +31,16 @@ AHEAD = [2, 6]
 
 
 def partners(circuit: Circuit, count: int, others: int,
-             alike: Mapping[int, int]) -> dict[int, int | None]:
+             equal_starts: Mapping[int, int]) -> dict[int, int | None]:
     """Returns the latch of the second file for each latch of the first, by positions; None if it
     has none.
 
     `count` and `others` are the files' numbers of latches. The partner has an equal initial value
-    (`alike`), the same name, or the same position."""
+    (`equal_starts`), the same name, or the same position."""
     names = {circuit.names.get(("l", i)): i for i in range(len(circuit.latches))}
     named = {i: names.get(OTHER + circuit.names[("l", i)])
              for i in range(count) if ("l", i) in circuit.names}
-    starting = {partner: place for place, partner in alike.items()}
+    starting = {partner: place for place, partner in equal_starts.items()}
     return {i: starting.get(i) or named.get(i) or (i + count if others == count else None)
             for i in range(count)}
 
@@ -229,12 +229,13 @@ class Guesses:
     """Guesses what is always equal in a miter: classes of nodes, first of latches only, which are
     split until they are inductive.
 
-    `alike` has the latches with equal initial values, and `given` the further arguments, such as
-    the two files' numbers of latches."""
+    `equal_starts` has the latches with equal initial values, and `given` the further arguments,
+    such as the two files' numbers of latches."""
 
-    def __init__(self, circuit: Circuit, alike: Mapping[int, int],
+    def __init__(self, circuit: Circuit, equal_starts: Mapping[int, int],
                  solver: IncrementalQueries, given: dict[str, Any]) -> None:
-        self.circuit, self.alike, self.solver, self.given = circuit, alike, solver, given
+        self.circuit, self.equal_starts = circuit, equal_starts
+        self.solver, self.given = solver, given
         self.counts: tuple[int, int] = (given["counts"][0], given["counts"][1])
         # Whether the solver exceeded its limits.
         self.is_hard = False
@@ -252,9 +253,9 @@ class Guesses:
     def guesses(self) -> Iterator[Guess]:
         """Yields guesses: registers and their partners, then other registers, then other nodes,
         also of further steps."""
-        nodes, rng = Nodes(self.circuit, self.alike), random.Random(0)
+        nodes, rng = Nodes(self.circuit, self.equal_starts), random.Random(0)
         latches = Classes(nodes, rng).begin([0, *nodes.latches])
-        given = partners(self.circuit, *self.counts, self.alike)
+        given = partners(self.circuit, *self.counts, self.equal_starts)
         other = {nodes.latches[i]: nodes.latches[it] for i, it in given.items() if it is not None}
         # If both files have the same number of registers, these are seldom from different time
         # steps.
@@ -271,7 +272,7 @@ class Guesses:
 
     def present(self, rng: random.Random) -> Iterator[Guess]:
         """Yields a guess about nodes of one step."""
-        nodes = Nodes(self.circuit, self.alike)
+        nodes = Nodes(self.circuit, self.equal_starts)
         yield Steps(Classes(nodes, rng).begin(nodes.all()), self.solver)
 
     def ahead(self, rng: random.Random) -> Iterator[Guess]:
@@ -288,7 +289,7 @@ class Guesses:
     def nodes_ahead(self, steps: int) -> tuple[int, Nodes]:
         """Returns the nodes, including those of further steps, and the literal behind the last node
         of the present step."""
-        nodes = Nodes(self.circuit, self.alike)
+        nodes = Nodes(self.circuit, self.equal_starts)
         stop = nodes.all().stop
         nodes.look_ahead(steps)
         return stop, nodes
@@ -315,10 +316,10 @@ def run(make: type[Guesses], folder: str, asked: str) -> int:
     given = json.loads(asked)
     with open(os.path.join(folder, "file.aag"), "rb") as file:
         circuit = Circuit(Lines(file.read(), "FILE"), given["limit"])
-    alike = {int(place): partner for place, partner in given["alike"].items()}
+    equal_starts = {int(place): partner for place, partner in given["equal_starts"].items()}
     task = Scope(Scheduler(1)).task("guesses")
     solver = IncrementalQueries(given["solver"], given["is_cadical"], task, folder)
-    sys.stdout.buffer.write(make(circuit, alike, solver, given).certificate() or b"")
+    sys.stdout.buffer.write(make(circuit, equal_starts, solver, given).certificate() or b"")
     return 0
 
 

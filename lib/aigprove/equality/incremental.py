@@ -14,7 +14,7 @@ from aigprove.questions.solver import ASSUMING, ended, true_of
 Pair = tuple[int, int]
 
 
-def apart(left: int, right: int) -> list[list[int]]:
+def ways_to_differ(left: int, right: int) -> list[list[int]]:
     """Returns both ways in which two literals can differ, each as a list of literals that are then
     true."""
     return [[it for it in way if it != 1]
@@ -62,7 +62,7 @@ class IncrementalQueries:
 
         The gates hold, and the pairs in `facts` are equal. Pairs before that index can't differ.
         `limits` are options of cadical. Raises Undecided if it reaches a limit."""
-        ways = [way for pair in pairs for way in apart(*pair)]
+        ways = [way for pair in pairs for way in ways_to_differ(*pair)]
         if not ways:
             return None
         with Folder(self.above) as folder:
@@ -81,7 +81,7 @@ class IncrementalQueries:
         query."""
         if self.gates is not gates:
             self.gates, self.clauses = gates, "".join(gate_clauses(gates))
-        further = [line(it ^ 1 for it in way) for pair in facts for way in apart(*pair)]
+        further = [line(it ^ 1 for it in way) for pair in facts for way in ways_to_differ(*pair)]
         if self.is_cadical:
             further += [f"a {line(way)}" for way in ways]
             return ["p inccnf\n", self.clauses, "".join(further)]

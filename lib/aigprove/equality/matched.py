@@ -34,7 +34,7 @@ def names_of(circuit: Circuit, letter: str, count: int) -> SomeNames:
     return names, len(names) == count
 
 
-def names_alone(path: str, own: SomeNames, other: SomeNames) -> list[str]:
+def names_only_in(path: str, own: SomeNames, other: SomeNames) -> list[str]:
     """Returns a text about the names that only the first file has, in a list, or an empty list.
 
     If the second file has signals without a name, nothing can be said."""
@@ -52,8 +52,8 @@ def described(letter: str,
     counts = [getattr(circuit.header, attribute) for circuit in circuits]
     first, other = (names_of(circuit, letter, count) for circuit, count in zip(circuits, counts))
     is_told = is_named or counts[0] != counts[1]
-    found = [*names_alone(paths[0], first, other),
-             *names_alone(paths[1], other, first)] if is_told else []
+    found = [*names_only_in(paths[0], first, other),
+             *names_only_in(paths[1], other, first)] if is_told else []
     return f"{counts[0]} and {counts[1]} {what}" + f" ({'; '.join(found)})" * bool(found)
 
 
@@ -67,7 +67,7 @@ def mismatch(paths: Sequence[str], circuits: Sequence[Circuit], named: Container
 def partners(way: str, first: Circuit, other: Circuit) -> dict[int, int]:
     """Returns the position of the first circuit's register for each matched register of the second,
     by its position."""
-    ours, theirs = first.opened(), other.opened()
+    ours, theirs = first.uninitialised(), other.uninitialised()
     if way == BY_ORDER:
         return dict(zip(theirs, ours))
     named = {first.names[place]: place[1]
@@ -78,7 +78,7 @@ def partners(way: str, first: Circuit, other: Circuit) -> dict[int, int]:
 def way_by_names(circuits: Iterable[Circuit]) -> str:
     """Returns by-name if all uninitialised registers have a name, and otherwise by-order."""
     return BY_NAME if all(("l", i) in circuit.names
-                          for circuit in circuits for i in circuit.opened()) else BY_ORDER
+                          for circuit in circuits for i in circuit.uninitialised()) else BY_ORDER
 
 
 class Starts:
@@ -92,27 +92,27 @@ class Starts:
         self.way = way if self.partners else APART
         self.suffix = SUFFIXES[self.way]
         said = f", registers with open start alike {way.replace('-', ' ')}"
-        self.said = said * (self.way != APART)
+        self.qualifier = said * (self.way != APART)
 
 
-def alone(way: str, paths: Sequence[str], first: Circuit, other: Circuit) -> Iterator[str]:
+def unmatched(way: str, paths: Sequence[str], first: Circuit, other: Circuit) -> Iterator[str]:
     """Yields lines about the uninitialised registers without a counterpart in the other file, with
     the reason."""
     found = partners(way, first, other)
-    yield from lines_of_alone(way, paths, first, other, set(found.values()))
-    yield from lines_of_alone(way, paths[::-1], other, first, set(found))
+    yield from lines_of_unmatched(way, paths, first, other, set(found.values()))
+    yield from lines_of_unmatched(way, paths[::-1], other, first, set(found))
 
 
-def lines_of_alone(way: str, paths: Sequence[str],
-                   own: Circuit, other: Circuit, matched: set[int]) -> Iterator[str]:
+def lines_of_unmatched(way: str, paths: Sequence[str], own: Circuit, other: Circuit,
+                       matched: set[int]) -> Iterator[str]:
     """Yields these lines for one file. `matched` has the positions of the registers that have a
     counterpart."""
     names = collections.defaultdict[str, dict[str, bool]](dict)
-    known = open_names(other)
-    for place in own.opened():
+    known = uninitialised_names(other)
+    for place in own.uninitialised():
         if place not in matched:
-            why = "{} has fewer" if way == BY_ORDER else why_alone(own.names.get(("l", place)),
-                                                                   known)
+            name = own.names.get(("l", place))
+            why = "{} has fewer" if way == BY_ORDER else why_unmatched(name, known)
             names[why][shown(own, place)] = True
     for why, found in names.items():
         listed = [*list(found)[:NAMED],
@@ -129,7 +129,7 @@ def shown(circuit: Circuit, place: int) -> str:
     return f"l{place}" if name is None else word(decoded(re.sub(rb"\[[0-9]+\]$", b"", name)))
 
 
-def open_names(circuit: Circuit) -> dict[bytes | None, bool]:
+def uninitialised_names(circuit: Circuit) -> dict[bytes | None, bool]:
     """Returns for each name of a circuit's registers whether one of them is uninitialised."""
     known: dict[bytes | None, bool] = {}
     for i, reset in enumerate(circuit.resets):
@@ -138,9 +138,9 @@ def open_names(circuit: Circuit) -> dict[bytes | None, bool]:
     return known
 
 
-def why_alone(name: bytes | None, known: Mapping[bytes | None, bool]) -> str:
+def why_unmatched(name: bytes | None, known: Mapping[bytes | None, bool]) -> str:
     """Returns why a register has no counterpart by name. `known` are the other file's names, as
-    `open_names` returns them."""
+    `uninitialised_names` returns them."""
     if name is None:
         return "no name"
     if name not in known:

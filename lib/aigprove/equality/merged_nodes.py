@@ -6,7 +6,7 @@ from aigprove.circuits.gates import Gates
 from aigprove.equality.nodes import Classes, Nodes
 
 # Two nodes that structural hashing doesn't merge, and their literals after merging all others.
-Apart = tuple[tuple[int, int], tuple[int, int]]
+Unmerged = tuple[tuple[int, int], tuple[int, int]]
 
 
 def read_by(classes: Classes) -> dict[int, tuple[int, ...]]:
@@ -64,7 +64,7 @@ class MergedNodes:
             self.rows.append((it, below, None if same == it else same))
 
     def literals(self, leaves: Sequence[int],
-                 gates: Gates, merged: dict[int, int]) -> tuple[list[int], list[Apart]]:
+                 gates: Gates, merged: dict[int, int]) -> tuple[list[int], list[Unmerged]]:
         """Returns the literals of all nodes after merging, and the pairs that structural hashing
         doesn't merge.
 
@@ -121,7 +121,7 @@ class Pairs:
             known += value, value ^ 1
         return known
 
-    def apart(self) -> set[int]:
+    def unequal_next(self) -> set[int]:
         """Returns those of these gates that aren't equal in the next step by structural hashing,
         unless pairs are assumed equal there as well."""
         now = self.unite()
@@ -139,7 +139,7 @@ class Pairs:
 
         A pair of gates may be left out if unit propagation finds it equal in the next step: if its
         operands are equal, and aren't themselves left out for that reason."""
-        apart, left_out = self.apart(), set[int]()
+        apart, left_out = self.unequal_next(), set[int]()
         for gate in filter(apart.__contains__, self.implied):
             if left_out.isdisjoint(self.read(gate) | self.read(self.implied[gate] & ~1)):
                 left_out.add(gate)

@@ -31,10 +31,10 @@ class Nodes:
     """A circuit in which the literals of the constant, inputs, latches and gates have this order,
     with each gate once.
 
-    `alike` has the latches whose initial values are those of other latches, by positions."""
+    `equal_starts` has the latches whose initial values are those of other latches, by positions."""
 
-    def __init__(self, circuit: Circuit, alike: Mapping[int, int] | None = None) -> None:
-        self.alike = alike or {}
+    def __init__(self, circuit: Circuit, equal_starts: Mapping[int, int] | None = None) -> None:
+        self.equal_starts = equal_starts or {}
         self.inputs = range(2, 2 * len(circuit.inputs) + 2, 2)
         self.latches = range(self.inputs.stop, self.inputs.stop + 2 * len(circuit.latches), 2)
         self.gates, self.resets = Gates(self.latches.stop), circuit.resets
@@ -58,7 +58,7 @@ class Nodes:
         `values` are those of uninitialised latches, and `every` has a bit for each run; if it is 1,
         the values may be literals."""
         state = [every * reset if reset < 2 else value for reset, value in zip(self.resets, values)]
-        for place, partner in self.alike.items():
+        for place, partner in self.equal_starts.items():
             state[place] = state[partner]
         return state
 

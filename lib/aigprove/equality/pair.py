@@ -19,7 +19,7 @@ from aigprove.output.signals import Signals, word
 from aigprove.processes.files import Sealed
 from aigprove.processes.groups import BackgroundCall
 from aigprove.processes.scheduler import Stopped
-from aigprove.questions.checker import MISFIT, Checker, Claim, Question, Subject
+from aigprove.questions.checker import MISMATCH, Checker, Claim, Question, Subject
 from aigprove.questions.input_file import InputFile
 from aigprove.questions.target import Statements, Target
 
@@ -82,7 +82,7 @@ class Pair(Target):
             reading.give_up()
             # A timeout of the second file is reported.
             raise (isinstance(why, Stopped) and reading.error) or why
-        second.say_left_out(design)
+        second.print_warnings(design)
         return first, second
 
     def arranged(self, designs: Sequence[tuple[Circuit, dict[int, list[str]]]]) -> list[Circuit]:
@@ -116,20 +116,20 @@ class Pair(Target):
         """Generates the miter. `way` says how the initial values of registers are matched."""
         words = self.called("miter", matched.SUFFIXES[way])
         try:
-            miter = self.checker.made(*words, self.first.file, self.other.file)
+            miter = self.checker.transformed(*words, self.first.file, self.other.file)
         except Fault as why:
-            if not str(why).startswith(MISFIT):
+            if not str(why).startswith(MISMATCH):
                 raise
             raise Fault(mismatch(self.paths, self.circuits())) from None
         self.subject = Subject(miter)
         circuits = [] if way == APART else self.circuits()
-        self.alone = list(matched.alone(way, self.paths, *circuits)) if circuits else []
+        self.unmatched = list(matched.unmatched(way, self.paths, *circuits)) if circuits else []
         self.starts = Starts(way, *circuits)
-        self.said = BEHIND[self.constraints] + self.starts.said
+        self.qualifier = BEHIND[self.constraints] + self.starts.qualifier
         _, bounded, window, _ = Statements()
-        self.lines = Statements("equal at step {k}" + self.said, bounded, window,
-                                "equal at every step" + self.said)
-        self.told = self.lines._replace(bounded=f"miter: {bounded}", window=f"miter: {window}")
+        self.lines = Statements("equal at step {k}" + self.qualifier, bounded, window,
+                                "equal at every step" + self.qualifier)
+        self.printed = self.lines._replace(bounded=f"miter: {bounded}", window=f"miter: {window}")
 
     def called(self, command: str, suffix: str) -> list[str]:
         """Returns the first words of a command of aigedit or aigcheck."""
@@ -159,11 +159,11 @@ class Pair(Target):
             return self.known
         return [self.first.symbols(), self.other.symbols()]
 
-    def alike(self) -> Target | None:
+    def with_equal_starts(self) -> Target | None:
         if self.starts.partners:
             return None
         made, circuits = copy.copy(self), self.circuits()
-        if all(circuit.opened() for circuit in circuits):
+        if all(circuit.uninitialised() for circuit in circuits):
             made.begin(matched.way_by_names(circuits))
         return made if made.starts.partners else None
 
@@ -171,7 +171,7 @@ class Pair(Target):
         return self.starts.way
 
     def up_to(self, k: int) -> str:
-        return super().up_to(k) + self.said + self.behind
+        return super().up_to(k) + self.qualifier + self.behind
 
     def assumed(self, header: Header) -> int:
         """Returns the number of constraints of both files, or of the first."""
@@ -239,7 +239,7 @@ class Pair(Target):
         matched."""
         yield from self.first.about()
         yield from self.other.about()
-        yield from self.alone
+        yield from self.unmatched
         yield from self.same_free()
         for kind in self.by_name:
             yield f"{kind} are matched by name: those of the second file are checked in the " \
@@ -290,7 +290,7 @@ class Pair(Target):
         places = [compared[bad] for bad in sorted(trace.bad for trace in traces)]
         names = [signals.place(*place) if place else "constraints" for place in places]
         step = len(traces[0].steps) - 1
-        return f"a difference at step {step}{self.said}{self.behind}: {', '.join(names)}"
+        return f"a difference at step {step}{self.qualifier}{self.behind}: {', '.join(names)}"
 
     def lines_of_run(self, signals: Signals, circuit: Circuit, trace: Witness) -> Iterator[str]:
         """Yields the lines of a trace, and of what differs at its end.
@@ -341,7 +341,7 @@ class Pair(Target):
         bads = [it.bad for it in self.mattering([trace, *self.others(circuit, trace)])]
         constraints = circuit.constraints[:-len(self.starts.partners)]
         own = circuit.with_lists(constraints=constraints)
-        found = simulated(own, trace, circuit.opened(), bads, SECONDS)
+        found = simulated(own, trace, circuit.uninitialised(), bads, SECONDS)
         start = list(found.start)
         for place, partner in self.started().items():
             start[partner] = start[partner] if start[place] == "x" else start[place]

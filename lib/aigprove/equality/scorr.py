@@ -42,16 +42,17 @@ def begun(nodes: Nodes) -> bytes:
     Its last latch says whether the model has taken a step. Before that, the value of an
     uninitialised latch is that of a further input."""
     count, latches = len(nodes.inputs), len(nodes.latches)
-    opened = [i for i, reset in enumerate(nodes.resets) if reset > 1 and i not in nodes.alike]
-    first = 2 * (1 + count + len(opened))
+    uninitialised = [i for i, reset in enumerate(nodes.resets)
+                     if reset > 1 and i not in nodes.equal_starts]
+    first = 2 * (1 + count + len(uninitialised))
     own, gates = range(first, first + 2 * latches, 2), Gates(first + 2 * latches + 2)
-    free = dict(zip(opened, range(nodes.inputs.stop, first, 2)))
+    free = dict(zip(uninitialised, range(nodes.inputs.stop, first, 2)))
     start = nodes.first([free.get(i, 0) for i in range(latches)], 1)
     state = [latch ^ value if value < 2 else gates.choice(own.stop, latch, value)
              for latch, value in zip(own, start)]
     known = nodes.literals([*nodes.inputs, *state], gates)
     nexts = [literal ^ (value == 1) for literal, value in zip(nodes.following(known), start)]
-    return binary(count + len(opened), [*nexts, 1], known[nodes.latches.start::2], gates)
+    return binary(count + len(uninitialised), [*nexts, 1], known[nodes.latches.start::2], gates)
 
 
 def outputs(data: bytes) -> list[int]:

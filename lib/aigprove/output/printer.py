@@ -24,7 +24,7 @@ if TYPE_CHECKING:
 # The seconds for finding values of a trace that don't matter; for at most how many properties of a
 # trace that is done; and the seconds for finding out whether equal initial values make two files
 # equal.
-SECONDS, SHOWN, ALIKE = 1, 8, 5
+SECONDS, SHOWN, EQUAL_STARTS = 1, 8, 5
 
 
 class Printer:
@@ -85,7 +85,7 @@ class Printer:
 
     def print_claim(self, claim: Claim, is_answer: bool = False) -> None:
         """Prints a checked line, and adds it to the evidence."""
-        self.print_line((claim.told or claim.line) + self.source.behind, is_answer)
+        self.print_line((claim.printed or claim.line) + self.source.behind, is_answer)
         if self.evidence:
             self.evidence.shows(claim)
 
@@ -136,7 +136,7 @@ class Printer:
         if options.vcd:
             dump = source.dump(circuit, trace)
             write(options.vcd, (f"{line}\n".encode() for line in dump))
-        self.print_alike(len(trace.steps) - 1)
+        self.print_equal_starts(len(trace.steps) - 1)
 
     def holds(self, trace: Witness, traces: Sequence[Witness]) -> bool:
         """Returns whether aigcheck accepts a trace as a witness of the properties of all these
@@ -149,31 +149,31 @@ class Printer:
         For a small trace they are found by simulation, and aigcheck checks the result."""
         if len(traces) > SHOWN:
             return traces[0]
-        circuit, opened = self.problem.circuit, self.problem.circuit.opened()
+        circuit, uninitialised = self.problem.circuit, self.problem.circuit.uninitialised()
         seconds = min(SECONDS, self.board.left())
         if len(traces[0].steps) * len(circuit.gates) <= SMALL:
             bads = [trace.bad for trace in traces]
-            found = simulated(circuit, traces[0], opened, bads, seconds)
+            found = simulated(circuit, traces[0], uninitialised, bads, seconds)
             if self.holds(found, traces):
                 return found
-        return minimal(traces[0], opened, lambda it: self.holds(it, traces), seconds)
+        return minimal(traces[0], uninitialised, lambda it: self.holds(it, traces), seconds)
 
-    def print_alike(self, k: int) -> None:
+    def print_equal_starts(self, k: int) -> None:
         """Prints that nothing differs at step `k` if registers start with equal values, and the
         option for that, if a solver soon proves it."""
         options = self.options
-        seconds = math.floor(min(ALIKE, self.board.left()))
+        seconds = math.floor(min(EQUAL_STARTS, self.board.left()))
         if seconds <= 0 or not options.solver.is_cadical or options.quiet or options.aiger:
             return
         question = Question("query", k)
         with contextlib.suppress(Fault):
-            if alike := self.source.alike():
+            if equal := self.source.with_equal_starts():
                 solver = self.job.solver().within(seconds)
-                has_solution, given = solver.ask(question, alike.subject)
-                claim = alike.unsolvable(question, given)
+                has_solution, given = solver.ask(question, equal.subject)
+                claim = equal.unsolvable(question, given)
                 if not has_solution and self.job.checker.shows(claim):
                     self.print_claim(claim)
-                    self.print_line(f"--starts {alike.way()} compares so")
+                    self.print_line(f"--starts {equal.way()} compares so")
 
     def certify(self, given: Sealed | int | str) -> None:
         """Writes the certificate of `--write-certificate`.

@@ -88,7 +88,7 @@ class Assumptions(Runs):
         question = Question("query", step)
         can_be_met, given = solver.ask(question, self.subject)
         if can_be_met:
-            made = Subject(self.checker.made("possible", self.subject.file))
+            made = Subject(self.checker.transformed("possible", self.subject.file))
             run = Sealed(self.checker.witness(made, question, given))
             self.makes = (MET, made.file)
             claim = Claim(f"b0 at step {step}", ["run", MET, "met"], {MET: made.file, "met": run})
@@ -157,7 +157,7 @@ class Endless(Runs):
         number, circuit.justice = len(circuit.justice), [*circuit.justice, []]
         circuit.header.count(circuit, circuit.header.counts[0])
         made = Sealed(circuit.text())
-        machine = Subject(self.checker.made("live", made, number))
+        machine = Subject(self.checker.transformed("live", made, number))
         data = self.checker.witness(machine, question, given)
         lasso = lasso_of(data, len(circuit.latches))._replace(bad=number)
         run = Sealed(lasso.text().encode())

@@ -22,7 +22,7 @@ if TYPE_CHECKING:
     from aigprove.output.evidence import Evidence
 
 # The greatest number of uninitialised registers that are named.
-NAMED_OPEN = 8
+MOST_NAMED = 8
 # The lines of aigcheck about a file from before AIGER 1.9, whose outputs are its bad states, and
 # the name of the transformed file in which they are bad state properties.
 OF_OUTPUTS = Statements("no output is true at step {k}", "no output is true up to step {k}",
@@ -121,12 +121,12 @@ class BadStates(Properties):
             replay = self.replay = Replay(design, circuit, trace)
         except Fault as why:
             yield from super().lines_of_run(signals, circuit, trace)
-            yield from self.open_registers(design, circuit, trace)
+            yield from self.uninitialised_registers(design, circuit, trace)
             yield from [f"{own} fails", f"yosys doesn't run it: {why}"]
         else:
-            latches = replay.latches | self.opened(circuit, trace)
+            latches = replay.latches | self.uninitialised(circuit, trace)
             yield from signals.lines(trace, latches, replay.changes)
-            yield from self.open_registers(design, circuit, trace)
+            yield from self.uninitialised_registers(design, circuit, trace)
             if replay.trouble:
                 yield f"{own} fails by the file, but where yosys runs the design {replay.trouble}"
             else:
@@ -138,17 +138,18 @@ class BadStates(Properties):
         """Returns the lines of a value change dump: that of yosys's simulation, if there is one."""
         return self.replay.dump.splitlines() if self.replay else super().dump(circuit, trace)
 
-    def open_registers(self, design: Design, circuit: Circuit, trace: Witness) -> Iterator[str]:
+    def uninitialised_registers(self, design: Design, circuit: Circuit,
+                                trace: Witness) -> Iterator[str]:
         """Yields the line that names the uninitialised registers whose values matter."""
         bits = [decoded(circuit.names.get(("l", i), b""))
-                for i in sorted(self.opened(circuit, trace))]
+                for i in sorted(self.uninitialised(circuit, trace))]
         registers = dict.fromkeys(re.sub(r"\[[0-9]+\]$", "", bit) for bit in bits)
         names = [name for name in registers if name and name not in design.constants]
         if names:
-            count = len(names) - NAMED_OPEN
+            count = len(names) - MOST_NAMED
             others = f" and {count} others" if count > 0 else ""
             hint = "" if design.reset else " (--reset SIGNAL begins with a reset)"
-            listed = " ".join(map(word, names[:NAMED_OPEN]))
+            listed = " ".join(map(word, names[:MOST_NAMED]))
             yield f"open at the start: {listed}{others}{hint}"
 
     def keep(self, evidence: Evidence) -> None:

@@ -17,13 +17,13 @@ from aigprove.processes.scheduler import Task
 # How aigcheck's refusal of a proof ends.
 STEP = "proof step does not follow"
 # How the refusal of a file ends that has more nodes than the limit.
-LARGE = "too many variables"
+TOO_LARGE = "too many variables"
 # The greatest number of variables that a simple-path query may have for comparing states.
 PAIRS = 1 << 22
-# MISFIT begins aigedit's message about an interface mismatch, and RESETS the one about an initial
+# MISMATCH begins aigedit's message about an interface mismatch, and RESETS the one about an initial
 # value that is neither constant nor the latch itself. LOOP is the loop of a lasso in aigcheck's
 # line.
-MISFIT, RESETS = "aigedit: files do not fit: ", "aigedit: other file: bad literal in latches"
+MISMATCH, RESETS = "aigedit: files do not fit: ", "aigedit: other file: bad literal in latches"
 LOOP = re.compile("from step ([0-9]+) to ([0-9]+)")
 
 
@@ -36,12 +36,12 @@ class Claim(NamedTuple):
     """A line that aigcheck prints when it is called with `words`, in which names of `files` stand
     for these files.
 
-    If `told` isn't empty, aigprove prints it in place of the line."""
+    If `printed` isn't empty, aigprove prints it in place of the line."""
 
     line: str
     words: Sequence[str]
     files: Mapping[str, Sealed]
-    told: str = ""
+    printed: str = ""
 
 
 class Subject(NamedTuple):
@@ -130,7 +130,7 @@ class Checker(NamedTuple):
         0."""
         status, _, said = self.task.output(words, stdout=out)
         if status != 0:
-            hint = message("too_many_nodes") * said.rstrip("\n").endswith(LARGE)
+            hint = message("too_many_nodes") * said.rstrip("\n").endswith(TOO_LARGE)
             raise Fault((said.partition("\n")[0] or f"{words[0]} {ending(status)}") + hint)
 
     def printed(self, *words: Word) -> Sealed:
@@ -145,7 +145,7 @@ class Checker(NamedTuple):
         """Returns the text form of a file."""
         return self.printed(*self.texts, file)
 
-    def made(self, *words: Word) -> Sealed:
+    def transformed(self, *words: Word) -> Sealed:
         """Returns the file that aigedit prints for these arguments."""
         return self.printed(*self.aigedit, *words)
 
@@ -168,9 +168,9 @@ class Checker(NamedTuple):
         If it doesn't begin so, or has initial values that are functions, the result is None; if it
         `is_needed`, Fault is raised."""
         try:
-            return self.made("join", file, certificate)
+            return self.transformed("join", file, certificate)
         except Fault as why:
-            if is_needed or not str(why).startswith((MISFIT, RESETS)):
+            if is_needed or not str(why).startswith((MISMATCH, RESETS)):
                 raise
             return None
 
@@ -182,7 +182,7 @@ class Checker(NamedTuple):
     def machine(self, subject: Subject) -> Sealed:
         """Returns a file with just this circuit, for engines. It isn't used as evidence."""
         command, *words = subject.edit or [""]
-        return self.made(command, subject.file, *words) if command else subject.file
+        return self.transformed(command, subject.file, *words) if command else subject.file
 
     def print_question(self, question: Query, subject: Subject, out: IO[bytes]) -> None:
         """Prints the clauses of a query into a file."""

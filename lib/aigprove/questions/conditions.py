@@ -38,14 +38,14 @@ def line_of_unmet(broken: Iterable[str]) -> list[str]:
     return [message("conditions", names=", ".join(broken))] if broken else []
 
 
-def with_open_resets(circuit: Circuit, starts: bool) -> None:
+def with_free_resets(circuit: Circuit, starts: bool) -> None:
     """Makes latches uninitialised whose initial values are functions.
 
     If `starts`, a constraint gives them these initial values: this circuit is for a query about
     step 0, and the one without it for a query about paths from any state. Programs that don't know
     such initial values accept both."""
     gates = Gates(2 * (circuit.header.counts[0] + 1))
-    for i in circuit.opened():
+    for i in circuit.uninitialised():
         latch, reset = circuit.latches[i], circuit.resets[i]
         if starts and reset != latch:
             circuit.constraints.append(gates.choice(latch, reset, reset ^ 1))

@@ -57,15 +57,15 @@ class InputFile:
             except Stopped:
                 raise overdue(paths[0]) from None
         self.take(sealed(self.design.file, checker.limit) if self.design else self.given[0])
-        self.say_left_out(options)
+        self.print_warnings(options)
 
-    def say_left_out(self, options: DesignOptions) -> None:
+    def print_warnings(self, options: DesignOptions) -> None:
         """Prints yosys's warnings about a design, and the properties that aren't checked now or
         later."""
         if self.design and not options.is_quiet:
-            left_out = self.design.left_out
-            for line in [*self.design.yosys.warnings, *self.design.noticed,
-                         *(line for kind, line in left_out if kind not in options.later)]:
+            unchecked = self.design.unchecked
+            for line in [*self.design.yosys.warnings, *self.design.notes,
+                         *(line for kind, line in unchecked if kind not in options.later)]:
                 say(line)
 
     def take(self, file: Sealed) -> None:
@@ -94,7 +94,7 @@ class InputFile:
     @functools.cached_property
     def bads(self) -> Sealed:
         """The transformed file, in which outputs are bad state properties."""
-        return self.checker.made("bads", self.file)
+        return self.checker.transformed("bads", self.file)
 
     def has_justice(self) -> bool:
         """Returns whether an AIGER file has a justice property. If its header is malformed, the

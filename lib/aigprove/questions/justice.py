@@ -46,8 +46,8 @@ class Justice(Properties):
             raise Fault.of("no_justice", path=self.path)
         made = super().one(number, above)
         made.so_far, made.nothing = f"no fair lasso of j{number}", f"nothing was shown of j{number}"
-        made.told = Statements(*(f"live: {line}" for line in Statements()))
-        made.told = made.told._replace(safe=made.lines.safe)
+        made.printed = Statements(*(f"live: {line}" for line in Statements()))
+        made.printed = made.printed._replace(safe=made.lines.safe)
         return made
 
     def each(self) -> Iterator[Target]:
@@ -107,15 +107,16 @@ class Justice(Properties):
         and matter, and the inputs of each step."""
         literals = circuit.justice[self.number] + circuit.fairness
         read: set[int] = set().union(*map(circuit.read_by, literals))
-        read = (named(circuit, read) if self.given.design else read) | self.opened(circuit, lasso)
+        read = named(circuit, read) if self.given.design else read
+        read |= self.uninitialised(circuit, lasso)
         signals.hidden = self.watching(circuit)
         yield from signals.lines(lasso, read, changes_of(signals, circuit, lasso, read))
         yield from self.meaning(lasso)
 
-    def opened(self, circuit: Circuit, trace: Witness) -> set[int]:
+    def uninitialised(self, circuit: Circuit, trace: Witness) -> set[int]:
         """Returns the positions of the latches that are uninitialised, and whose values matter. In
         a design these have names."""
-        return {i for i in super().opened(circuit, trace)
+        return {i for i in super().uninitialised(circuit, trace)
                 if not self.given.design or ("l", i) in circuit.names}
 
     def watching(self, circuit: Circuit) -> set[str]:

@@ -66,7 +66,7 @@ class Target:
     stem: str
     subject: Subject
     # The lines that aigcheck prints, and those that aigprove prints in their place.
-    lines, told = Statements(), Statements()
+    lines, printed = Statements(), Statements()
     # The beginning of the line about the steps checked so far, and the line if there are none; the
     # message about a file without properties; and what is appended to lines about a file whose
     # signals aigprove has reordered.
@@ -81,17 +81,17 @@ class Target:
         raise NotImplementedError
 
     def claim(self, line: str, command: str, words: Iterable[str],
-              files: Mapping[str, Sealed], told: str = "") -> Claim:
+              files: Mapping[str, Sealed], printed: str = "") -> Claim:
         """Returns a claim about the circuit: the line that aigcheck prints for a command."""
         called = [*self.subject.words, command, self.name, *words]
-        return Claim(line, called, {self.name: self.subject.file, **files}, told)
+        return Claim(line, called, {self.name: self.subject.file, **files}, printed)
 
     def unsolvable(self, question: Question, proof: Sealed) -> Claim:
         """Returns the claim that a query has no solution, by a proof."""
         command, *words = SHOWN[question.command]
         words += [str(question.k), question.name, *question.form]
         return self.claim(self.lines.of(question), command, words, {question.name: proof},
-                          self.told.of(question))
+                          self.printed.of(question))
 
     def proved(self, question: Question, base: Sealed, window: Question, step: Sealed) -> Claim:
         """Returns the claim that no bad state is reachable, by proofs of a `bounded` query and of a
@@ -107,7 +107,7 @@ class Target:
 
     def unreached(self, command: str, words: Sequence[str], files: Mapping[str, Sealed]) -> Claim:
         """Returns the claim that no bad state is reachable, by a command of aigcheck."""
-        return self.claim(self.lines.safe, command, words, files, self.told.safe)
+        return self.claim(self.lines.safe, command, words, files, self.printed.safe)
 
     def up_to(self, k: int) -> str:
         """Returns the line that says that all steps up to `k` are checked."""
@@ -122,7 +122,7 @@ class Target:
         """Returns the target whose circuit has these constraints."""
         return self
 
-    def alike(self) -> Target | None:
+    def with_equal_starts(self) -> Target | None:
         """Returns the same target with equal initial values of matched registers, if that may
         change an answer, and otherwise None."""
         return None
@@ -195,11 +195,11 @@ class Target:
     def shown(self, circuit: Circuit, trace: Witness, read: set[int]) -> set[int]:
         """Returns the positions of the latches whose initial values are printed. `read` are those
         that the property reads."""
-        return read | self.opened(circuit, trace)
+        return read | self.uninitialised(circuit, trace)
 
-    def opened(self, circuit: Circuit, trace: Witness) -> set[int]:
+    def uninitialised(self, circuit: Circuit, trace: Witness) -> set[int]:
         """Returns the positions of the latches that are uninitialised, and whose values matter."""
-        return {i for i in circuit.opened() if trace.start[i] != "x"}
+        return {i for i in circuit.uninitialised() if trace.start[i] != "x"}
 
     def dump(self, circuit: Circuit, trace: Witness) -> Iterable[str]:
         """Returns the lines of a value change dump."""
