@@ -13,6 +13,7 @@ from aiger import Machine
 from lasso_search import Steps, reachable
 from machines import NAMES, random_machine, renumbered
 
+from aigprove.circuits.gates import Gates, literals_of
 
 CONDITIONS = ["reset", "transition", "property", "base", "step"]
 # How many inputs and latches both have at most, where each leaf that is shared counts once.
@@ -556,5 +557,3 @@ MANGLES = [
     other_gate, other_reset, other_circle, other_next, other_bad, other_constraint, fewer_latches,
     other_order, other_names,
 ]
-
-from aigprove.circuits.gates import Gates, literals_of

@@ -663,7 +663,8 @@ def test_settled(
     text, made = (
         "".join(f"{indent}assign {line}\n" for line in given) for given in (lines, wanted)
     )
-    again = changed(free_unknowns, f"module \\top\n  process $p\n{switch}{text}{behind}  end\nend\n")
+    whole = f"module \\top\n  process $p\n{switch}{text}{behind}  end\nend\n"
+    again = changed(free_unknowns, whole)
     checks.wants(
         lines,
         f"  process $p\n{switch}{made}{behind}  end\nend\n",
