@@ -66,7 +66,12 @@ def of_abc(text: str, circuit: Circuit) -> tuple[str, list[str]] | None:
 
     Values behind the file's inputs are those of uninitialised latches, as ABC's `undc` creates
     them."""
-    rows = named_rows(text, circuit) if "@0=" in text else plain_rows(text)
+    if "@0=" in text:
+        rows = named_rows(text, circuit)
+    else:
+        # That is the format of `write_cex -a`, whose first line is the state.
+        lines = text.replace("# DONE", "").split("\n")[1:]
+        rows = [line for line in lines if re.fullmatch("[01]+", line)]
     count = len(circuit.inputs)
     if not rows or any(len(row) < count for row in rows):
         return None
@@ -74,13 +79,6 @@ def of_abc(text: str, circuit: Circuit) -> tuple[str, list[str]] | None:
     for i, given in zip(circuit.uninitialised(), rows[0][count:]):
         start[i] = given
     return "".join(start), [row[:count] for row in rows]
-
-
-def plain_rows(text: str) -> list[str]:
-    """Returns the inputs of each step in a counterexample of `write_cex -a`, whose first line is
-    the state."""
-    lines = text.replace("# DONE", "").split("\n")[1:]
-    return [line for line in lines if re.fullmatch("[01]+", line)]
 
 
 def named_rows(text: str, circuit: Circuit) -> list[str]:

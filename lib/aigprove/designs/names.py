@@ -1,11 +1,11 @@
 """Finds out what undeclared names of a design mean.
 
 Yosys treats each undeclared name as a one-bit net. So a design is first read with options that make
-yosys refuse undeclared names. If it has some, it is read again, with its syntax trees. Then a path
-to a signal in an instance is declared as a net of the same range and sign, which yosys connects
-with that signal when it flattens the design. An implicit net of Verilog is declared as a one-bit
-net. Any other name is refused. Finally the design is read with these declarations, and yosys again
-refuses what isn't declared."""
+yosys refuse undeclared names. If it has some, it is read again, with its syntax trees. A path to a
+signal in an instance is then declared as a net of the same range and sign, which yosys connects
+with that signal. An implicit net of Verilog is declared as a one-bit net. Any other name is
+refused. Finally the design is read with these declarations, and yosys again refuses what isn't
+declared."""
 from __future__ import annotations
 
 import collections
@@ -90,8 +90,8 @@ class Node(NamedTuple):
 
 
 class Use(NamedTuple):
-    """A use of a name: its source location, whether it may declare an implicit net, and whether it
-    is in a generate block."""
+    """A use of a name: its source location, and whether it may declare an implicit net, and is in a
+    generate block."""
 
     place: str
     is_declaring: bool
@@ -250,15 +250,12 @@ class Hierarchy:
                 for net in self.modules[kind].nets.values() if (net.place, net.name) in self.places]
 
     def is_of_interface(self, kind: str, net: Net) -> bool:
-        """Returns whether a net belongs to an interface of the module: yosys declares it once it
-        knows the interface."""
+        """Returns whether a net belongs to an interface, which yosys declares once it knows the
+        interface."""
         module, first = self.modules[kind], net.name.partition(".")[0]
+        inner = self.modules.get(module.cells.get(first, ""))
         return (first in module.nets and INTERFACE in module.nets[first].attributes
-                or self.is_interface(module.cells.get(first)))
-
-    def is_interface(self, kind: str | None) -> bool:
-        """Returns whether there is a module of this name, and it is an interface."""
-        return kind in self.modules and INTERFACE in self.modules[kind].module.attributes
+                or inner is not None and INTERFACE in inner.module.attributes)
 
     def check_array(self, kind: str, cell: str) -> None:
         """Raises Fault if an instance belongs to an array whose indices yosys doesn't keep."""
@@ -371,10 +368,10 @@ class Names:
         return {path: text.with_lines(lines) for path, text in self.texts.items()}
 
     def checked(self, design: Statement, said: str) -> Statement:
-        """Returns the design that yosys read with the declarations, without unused ones.
+        """Returns the design that yosys read with the declarations, without unused ones. `said` is
+        what yosys printed.
 
-        Raises Fault if a declared net isn't what it is connected with, or is written. `said` is
-        what yosys printed."""
+        Raises Fault if a declared net isn't what it is connected with, or is written."""
         hierarchy = Hierarchy(design, self.trees, warned(said))
         for kind, module in hierarchy.modules.items():
             for net in hierarchy.implicit(kind):

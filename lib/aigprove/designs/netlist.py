@@ -37,12 +37,9 @@ def pattern_of(name: str) -> str:
 def names_of(module: Json) -> dict[Bit, str]:
     """Returns a name for each bit of a module: preferably that of a port, then that of a net that
     the design names."""
-    names = {}
     ranked = sorted(module["netnames"].items(),
                     key=lambda it: (it[0] in module["ports"], not it[1]["hide_name"]))
-    for name, net in ranked:
-        names.update(dict.fromkeys(net["bits"], name))
-    return names
+    return {bit: name for name, net in ranked for bit in net["bits"]}
 
 
 def spelled(module: Json, bit: Bit) -> str:

@@ -78,11 +78,6 @@ def count(pattern: str, what: str, kind: Callable[[str], Number],
     return taken
 
 
-def mebibytes(word: str) -> int:
-    """Returns a number of MiB in bytes."""
-    return int(word) << 20
-
-
 def nonempty(word: str) -> str:
     """Returns a file name. Raises ArgumentTypeError if it is empty."""
     if not word:
@@ -147,7 +142,7 @@ def made_by() -> dict[str, dict[str, Any]]:
         "--bound": {"type": count(index, "steps", int)},
         "--timeout": {"type": count(r"[0-9]{1,9}(\.[0-9]{1,9})?", "seconds", float)},
         "--limit": {"type": count(positive, "nodes", int, most=1 << 31)},
-        "--memory": {"type": count(positive, "MiB", mebibytes, most=1 << 62)},
+        "--memory": {"type": count(positive, "MiB", lambda word: int(word) << 20, most=1 << 62)},
         "--jobs": {"type": count("[1-9][0-9]{0,4}", "programs", int),
                    "default": len(os.sched_getaffinity(0))},
         "--engine": {"type": engines}, "--solver": {"type": shlex.split},
