@@ -151,15 +151,20 @@ class Counting(Job):
         self.count, self.is_reached, self.bound = count, False, None
 
     def reached(self, start: str, steps: Sequence[str]) -> Witness | None:
+        """Returns the witness of the first bad state of a trace, found by simulation: aigcheck
+        isn't needed for it."""
         return reached(self.problem.circuit, start, steps)
 
     def progress(self, what: str, count: int | None = None) -> None:
+        """Records which number of rounds is tried."""
         super().progress("rounds", self.count)
 
     def hand_in_run(self, data: bytes) -> None:
+        """Records that this number of rounds can end."""
         self.is_reached = True
 
     def hand_in(self, answer: Answer) -> None:
+        """Hands in that the rounds can't end, without a certificate."""
         assert isinstance(answer, Safe)
         super().hand_in(answer._replace(certificate=message("about_rounds")))
 

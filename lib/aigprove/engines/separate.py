@@ -60,6 +60,8 @@ class PropertyPortfolio:
         self.board.wake()
 
     def take(self, engine: str, answer: Answer) -> int | None:
+        """Records an answer and its evidence, and returns the exit status if it decides the
+        query."""
         if isinstance(answer, StepShown):
             self.take_step(answer)
             return None
@@ -86,6 +88,7 @@ class PropertyPortfolio:
             own.steps = max(own.steps, self.board.steps)
 
     def fail(self, engine: str, error: Exception | str) -> None:
+        """Reports why an engine has no answer."""
         self.owner.fail(engine, error)
 
     def show_progress(self) -> None:

@@ -47,6 +47,7 @@ class SharedProperties(SeparateProperties):
         self.shortening = threading.Lock()
 
     def circuit(self, number: int) -> Circuit:
+        """Returns the circuit with only this property."""
         return self.cones.of([number])
 
     def of_all(self, engines: Iterable[str] = ()) -> PropertyPortfolio:
@@ -124,6 +125,7 @@ class SharedProperties(SeparateProperties):
             self.fail_abc("bmc3", error)
 
     def round(self, numbers: Sequence[int], seconds: float) -> None:
+        """Checks properties, and then looks for shorter traces."""
         super().round(numbers, seconds)
         self.settle()
 
@@ -166,11 +168,13 @@ class SharedProperties(SeparateProperties):
             self.first.set()
 
     def end_all(self) -> None:
+        """Ends all portfolios, and ABC."""
         self.whole.end_all()
         super().end_all()
         self.scope.stop()
 
     def run(self) -> None:
+        """Checks all undecided properties."""
         calls = [self.share] * ("pdr" in self.options.engines)
         is_new = not any(answer.is_answered or answer.steps for answer in self.answers)
         calls += [self.together] * (is_new and bool(self.whole.problem.options.engines))

@@ -5,13 +5,14 @@ import copy
 from collections.abc import Iterable, Iterator, Mapping, Sequence
 
 from aigprove.circuits import simulation
-from aigprove.circuits.aiger import KINDS, Circuit, Fault, Header, Symbols, decoded
+from aigprove.circuits.aiger import Circuit, Fault, Header, Symbols, decoded
 from aigprove.circuits.minimal import SMALL, simulated
 from aigprove.circuits.simulation import SIMULATED
 from aigprove.circuits.witness import Witness
 from aigprove.data import message
 from aigprove.designs.front_ends import FRONTS, VERILOG, kind_of
 from aigprove.equality import matched
+from aigprove.equality.ends import NAMED, End, unmet
 from aigprove.equality.matched import SIGNALS, Starts, mismatch
 from aigprove.options.options import APART, BOTH, BY_NAME, COMPARED, FIRST, DesignOptions, Options
 from aigprove.output.evidence import Evidence
@@ -26,9 +27,8 @@ from aigprove.questions.target import Statements, Target
 # The text behind lines, by the value of `--constraints`.
 BEHIND = {BOTH: "", FIRST: ", under the constraints of the first alone",
           COMPARED: ", constraints too"}
-# The greatest number of differing outputs that are named, and the seconds for finding initial
-# values that don't matter.
-NAMED, SECONDS = 100, 1
+# The seconds for finding initial values that don't matter.
+SECONDS = 1
 # The greatest number of undefined values, and of signals with two names, that are listed.
 FEW = 10
 # The letter and position of what a bad state property of the miter compares; None for the
@@ -160,6 +160,8 @@ class Pair(Target):
         return [self.first.symbols(), self.other.symbols()]
 
     def with_equal_starts(self) -> Target | None:
+        """Returns the same pair with matched initial values, if registers can be matched and aren't
+        yet."""
         if self.starts.partners:
             return None
         made, circuits = copy.copy(self), self.circuits()
@@ -168,9 +170,12 @@ class Pair(Target):
         return made if made.starts.partners else None
 
     def way(self) -> str:
+        """Returns how registers are matched, as the value of `--starts`."""
         return self.starts.way
 
     def up_to(self, k: int) -> str:
+        """Returns the line that says that all steps up to `k` are equal, and under which
+        conditions."""
         return super().up_to(k) + self.qualifier + self.behind
 
     def assumed(self, header: Header) -> int:
@@ -188,12 +193,15 @@ class Pair(Target):
         return made
 
     def unsolvable(self, question: Question, proof: Sealed) -> Claim:
+        """Returns the claim that a query has no solution. At a single step it is a claim about both
+        files."""
         if question.command != "query":
             return super().unsolvable(question, proof)
         words = [str(question.k), question.name]
         return self.compares(self.lines.of(question), words, {question.name: proof})
 
     def unreached(self, command: str, words: Sequence[str], files: Mapping[str, Sealed]) -> Claim:
+        """Returns the claim that both files are equal at every step."""
         return self.compares(self.lines.safe, ["by"] * (command == "certified") + [*words], files)
 
     def started(self) -> dict[int, int]:
@@ -227,6 +235,7 @@ class Pair(Target):
         return circuit
 
     def warnings(self) -> Iterator[str]:
+        """Yields warnings about both files, and about their constraints."""
         yield from self.first.warnings()
         yield from self.other.warnings()
         first, other = self.constrained()
@@ -354,38 +363,11 @@ class Pair(Target):
         return {partners.get(place, place) for place in super().shown(circuit, trace, read)}
 
     def keep(self, evidence: Evidence) -> None:
+        """Writes both files and their miter into an evidence folder."""
         self.first.keep(evidence)
         self.other.keep(evidence)
         words = self.called("miter", self.starts.suffix)
         evidence.makes(self.name, self.subject.file, *words, self.first.name, self.other.name)
-
-
-class End:
-    """One of the two files at the end of a trace of their miter.
-
-    `place` is the position of its first latch in the miter."""
-
-    def __init__(self, circuit: Circuit, place: int, trace: Witness) -> None:
-        self.circuit, self.signals = circuit, Signals(circuit)
-        start = trace.start[place:place + len(circuit.latches)]
-        *_, self.literals = simulation.run(circuit, start, trace.steps)
-
-    def values(self, letter: str) -> list[str]:
-        """Returns the values of all signals of a kind."""
-        return [self.literals[literal] for literal in getattr(self.circuit, KINDS[letter])]
-
-    def outputs(self, places: set[int]) -> str:
-        """Returns the printed values of the outputs at these positions."""
-        return " ".join(self.signals.values("o", self.values("o"), places))
-
-
-def unmet(*ends: End) -> Iterator[str]:
-    """Yields a line for each file whose constraints don't hold at the end of a trace."""
-    for which, end in zip(["first", "second"], ends):
-        broken = [i for i, value in enumerate(end.values("c")) if value == "0"]
-        if broken:
-            names = ", ".join(end.signals.place("c", i) for i in broken[:NAMED])
-            yield f"the {which} file doesn't meet {names}"
 
 
 def of_second(options: DesignOptions, paths: Sequence[str]) -> DesignOptions:

@@ -81,9 +81,11 @@ class Found(Steps):
         self.is_taken = is_taken
 
     def pairs(self) -> list[Pair]:
+        """Returns the pairs of equal nodes, unchecked if `is_taken`."""
         return self.classes.pairs() if self.is_taken else super().pairs()
 
     def settle(self) -> None:
+        """Sorts the nodes, and splits no class."""
         self.order = ordered(self.classes)
 
 

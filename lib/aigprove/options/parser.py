@@ -40,9 +40,11 @@ class Parser(argparse.ArgumentParser):
     is raised."""
 
     def error(self, message: str) -> NoReturn:
+        """Exits with status 2, after a message without control characters."""
         super().error(escaped(message))
 
     def _print_message(self, message: str, file: IO[str] | None = None) -> None:
+        """Writes to standard output, or to standard error while ignoring errors."""
         if file is not None and file is sys.stdout:
             file.write(message)
         else:

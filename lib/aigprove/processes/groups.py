@@ -37,6 +37,7 @@ class BackgroundCall(threading.Thread, Generic[T]):
         self.start()
 
     def run(self) -> None:
+        """Runs the call, and records its result or its exception."""
         try:
             self.given.append(self.call(*self.arguments))
         except BaseException as error:

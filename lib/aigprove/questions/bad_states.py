@@ -68,10 +68,14 @@ class BadStates(Properties):
         return made
 
     def run(self, checker: Checker, trace: Witness) -> Claim:
+        """Returns the claim that a trace reaches a bad state, after aigcheck has checked it. Raises
+        Fault if aigcheck refuses it."""
         own = super().run if not self.is_by_outputs else self.placed("").run
         return own(checker, trace)
 
     def keep_run(self, evidence: Evidence, checker: Checker, trace: Witness) -> None:
+        """Writes a trace into an evidence folder, with the transformed file if the trace is about
+        outputs."""
         if self.is_by_outputs:
             self.keep_bads(evidence)
         super().keep_run(evidence, checker, trace)
@@ -82,9 +86,11 @@ class BadStates(Properties):
         evidence.makes(BADS, self.given.bads, "bads", self.given.name)
 
     def of_file(self, trace: Witness) -> Witness:
+        """Returns a witness of the file, given one of the engines' file."""
         return trace.showing(self.number) if self.is_one else trace
 
     def warnings(self) -> Iterator[str]:
+        """Yields warnings about what isn't checked."""
         return self.given.warnings()
 
     def has_later(self, kinds: Iterable[str]) -> bool:
@@ -94,16 +100,20 @@ class BadStates(Properties):
                                        or LIVE in kinds and design.has_lives)
 
     def counted(self) -> tuple[str, int]:
+        """Returns the letter of the properties' names in the file, and their number."""
         header = self.given.header()
         return ("o", header.outputs) if self.is_old else ("b", header.bads)
 
     def about(self) -> Iterator[str]:
+        """Yields lines about what is checked, if that isn't obvious."""
         yield from super().about()
         if self.is_old:
             yield "the outputs are taken for bad state properties: " \
                 "the file is of a time before these"
 
     def lines_of_run(self, signals: Signals, circuit: Circuit, trace: Witness) -> Iterator[str]:
+        """Yields the lines of a trace, with the values in yosys's simulation if the file is a
+        design."""
         design = self.given.design
         if design is None or not design.assertions:
             return super().lines_of_run(signals, circuit, trace)
@@ -153,6 +163,8 @@ class BadStates(Properties):
             yield f"open at the start: {listed}{others}{hint}"
 
     def keep(self, evidence: Evidence) -> None:
+        """Writes the file into an evidence folder, and the transformed file if properties are about
+        that."""
         super().keep(evidence)
         if self.is_old and not self.is_by_outputs and not self.above:
             self.keep_bads(evidence)

@@ -66,9 +66,11 @@ class Justice(Properties):
         return made
 
     def is_fair(self) -> bool:
+        """Returns whether there are fairness constraints."""
         return self.given.header().fairness > 0
 
     def warnings(self) -> Iterator[str]:
+        """Yields a warning about the file's other properties, unless these are checked as well."""
         header = self.given.header()
         unseen = [*counted(header.bads, "bad state property", "bad state properties"),
                   *counted(header.justice - 1, "other justice property",
@@ -77,15 +79,19 @@ class Justice(Properties):
             yield from skipped(self.path, unseen, header.bads + header.justice - 1)
 
     def about(self) -> Iterator[str]:
+        """Yields the lines about the design and the property."""
         if self.is_alone or self.number == 0:
             yield from self.given.about()
         if self.given.design:
             yield f"j{self.number}: {self.given.design.assertion(self.number)[0]}"
 
     def of_file(self, trace: Witness) -> Witness:
+        """Returns the lasso of the file, given a trace of the l2s circuit."""
         return trace.lasso(self.number, self.given.header().latches)
 
     def run(self, checker: Checker, trace: Witness) -> Claim:
+        """Returns the claim that a lasso is fair, after aigcheck has checked it. Raises Fault if
+        aigcheck refuses it."""
         files = {self.name: self.given.file, "witness": Sealed(trace.text().encode())}
         line, _ = checker.lasso(Subject(self.given.file), files["witness"])
         return Claim(line, ["run", *files], files)

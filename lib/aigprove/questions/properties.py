@@ -50,12 +50,15 @@ class Properties(Target):
         return made
 
     def circuit(self) -> Circuit:
+        """Returns the circuit whose names are used for printing traces."""
         return self.given.circuit()
 
     def places(self, header: Header) -> list[str]:
+        """Returns the names of the properties in the AIGER report format."""
         return [f"{self.letter}{self.number}"] if self.is_one else super().places(header)
 
     def about(self) -> Iterator[str]:
+        """Yields lines about what is checked, if that isn't obvious."""
         yield from self.given.about()
 
     def answers(self) -> list[PropertyAnswer]:
@@ -70,5 +73,6 @@ class Properties(Target):
         return self.letter, self.given.header().justice
 
     def keep(self, evidence: Evidence) -> None:
+        """Writes the file into an evidence folder, unless another folder has it."""
         if not self.above:
             self.given.keep(evidence)
