@@ -8,7 +8,7 @@ from typing import IO, NoReturn
 from aigprove.options.parser import parse
 from aigprove.output.messages import report
 
-# The exit status if something went wrong.
+# The exit status after an error.
 FAILED = 1
 
 

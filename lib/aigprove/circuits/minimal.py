@@ -42,8 +42,10 @@ def simulated(circuit: Circuit, trace: Witness,
     gone: list[Place] = []
 
     def shown(left: Sequence[Place], trials_of: Callable[[int, int], int]) -> int:
-        """Returns the trials that hold, of as many as there are places left, each without what is
-        gone: those of a place are these."""
+        """Returns the trials in which the trace still shows its bad states.
+
+        There is a trial for each place in `left`. The values in `gone` are left out in all trials,
+        and the value at place `i` in those of `trials_of(every, i)`."""
         every = (1 << len(left)) - 1
         left_out = {**dict.fromkeys(gone, every),
                     **{place: trials_of(every, i) for i, place in enumerate(left)}}
@@ -54,7 +56,7 @@ def simulated(circuit: Circuit, trace: Witness,
         alone = shown(left, lambda _, i: 1 << i)
         left = [place for i, place in enumerate(left) if alone >> i & 1]
         while left and time.thread_time() < until:
-            # In a trial this place and those before it are left out.
+            # In the trial of a place, its value and those at the places before it are left out.
             rows = shown(left, lambda every, i: every >> i << i)
             count = (~rows & rows + 1).bit_length() - 1
             gone, left = gone + left[:count], left[count + 1:]

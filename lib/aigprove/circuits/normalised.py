@@ -44,7 +44,7 @@ class Named:
     def rows(self, names: Sequence[str]) -> list[str]:
         """Returns a value for each of these names in each step; 0 for a missing one. Raises Fault
         if there are too many steps."""
-        # There is a line for each name and step.
+        # A complete counterexample has a line for each name and step.
         if self.length > LONGEST or self.length * len(names) > 2 * len(self.values):
             raise Fault.of("long_counterexample")
         return ["".join(self.values.get((t, name), "0") for name in names)

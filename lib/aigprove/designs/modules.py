@@ -191,7 +191,7 @@ def check_names(modules: Mapping[str, Statement], passed: str = "") -> None:
         for own in dotted:
             for end in dots_in(own):
                 other = modules.get(types.get(own[:end], ""))
-                # What an interface has is declared by paths.
+                # The signals of an interface are declared by their paths.
                 is_path = other and INTERFACE not in other.attributes
                 if is_path and other and f"\\{own[end + 1:]}" in begins_of(other):
                     raise Fault.of("ambiguous_name", module=base_of(name), name=own[1:],

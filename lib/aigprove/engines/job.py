@@ -41,7 +41,7 @@ class Sink(Protocol):
     """Receives answers."""
 
     def take(self, engine: str, answer: Answer) -> int | None:
-        """Takes an answer of an engine, and returns the exit status if it decides the question."""
+        """Receives an answer of an engine, and returns the exit status if it decides the query."""
 
     def fail(self, engine: str, error: Exception | str) -> None:
         """Reports why an engine gives no answer."""

@@ -56,8 +56,8 @@ class SolverOptions(NamedTuple):
     def takes_turns(self) -> bool:
         """Returns whether the solver is asked about one step after the other.
 
-        A proof with hints is checked in far less time than a proof of steps in turn, which has
-        no hints."""
+        cadical is, unless its version writes hints: checking a proof with hints takes far less time
+        than checking one of incremental queries, which has none."""
         return self.is_cadical and HINTED not in self.words
 
 

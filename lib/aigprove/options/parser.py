@@ -105,7 +105,7 @@ def macro(word: str) -> tuple[str, str]:
 
 
 def module(word: str) -> str:
-    """Returns the name of a module."""
+    """Returns the name of a module in an argument. Raises ArgumentTypeError if it isn't one."""
     return fitting(word, IDENTIFIER, "a name of a module")[0]
 
 

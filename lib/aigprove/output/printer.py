@@ -112,8 +112,6 @@ class Printer:
         reported = 0 if status == SAFE else 2
         print(f"{reported}\n{places}\n.\n", end="", flush=True)
 
-    # Runs.
-
     def print_run(self, traces: Sequence[Witness]) -> None:
         """Prints a trace without the values that don't matter, and writes it into the files that
         are asked for."""

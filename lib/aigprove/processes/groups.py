@@ -58,7 +58,7 @@ class BackgroundCall(threading.Thread, Generic[T]):
 def adopt() -> None:
     """Makes this process the parent of all processes that its programs leave behind, so that `bury`
     finds them."""
-    # Only one process of ours does that.
+    # Only the main process needs this module.
     import ctypes
 
     ctypes.CDLL(None).prctl(SUBREAPER, 1, 0, 0, 0)
@@ -130,9 +130,9 @@ class Group:
     limits it has."""
 
     def __init__(self, task: Task, words: Words, folder: Folder | None, **streams: Any) -> None:
-        # The folder whose limit it keeps, and up to when its time was counted.
+        # The folder whose limit it has, and until when its running time is counted.
         self.task, self.folder, self.counted = task, folder, time.monotonic()
-        # The long files among its words.
+        # The long files among its arguments.
         sealed = [word for word in words if isinstance(word, Sealed)]
         self.reads = [file for file in sealed if file.size() >= LONG]
         path = folder.path if folder else None

@@ -1,4 +1,4 @@
-"""The scheduler: as many programs run at once as there are jobs, and the others wait their turn."""
+"""The scheduler: a limited number of programs run at once, and the others wait for their turn."""
 from __future__ import annotations
 
 import contextlib
@@ -57,10 +57,10 @@ class Task:
         return self.scheduler.finish(group)
 
     def output(self, words: Words, **streams: Any) -> tuple[int, str, str]:
-        """Runs one of our own programs.
+        """Runs one of aig's own programs.
 
-        Returns its status, what it prints, and what it prints on standard error, without the
-        paths and places of sealed files among its arguments."""
+        Returns its status, its output, and its messages on standard error, without the paths of
+        immutable copies among its arguments, and the lines in them."""
         sealed = [word for word in words if isinstance(word, Sealed)]
         with in_memory() as out, in_memory() as said:
             options: dict[str, Any] = {"stdout": out, "stderr": said, **streams}
@@ -149,7 +149,8 @@ class Scheduler:
         self.looked = time.monotonic()
 
     def start(self, task: Task, words: Words, folder: Folder | None, **streams: Any) -> Group:
-        """Starts a program of a task, which waits for its turn if there is none free."""
+        """Starts a program of a task, which waits if no turn is free. Raises Stopped if the task
+        isn't needed any more."""
         with self.lock:
             self.check_stopped(task)
             group = Group(task, words, folder, **streams)
