@@ -64,7 +64,7 @@ def fitting(word: str, pattern: str, why: str) -> re.Match[str]:
     describes the pattern."""
     if found := re.fullmatch(pattern, word):
         return found
-    raise argparse.ArgumentTypeError(f"{word} isn't {why}")
+    raise argparse.ArgumentTypeError(message("not_fitting", word=word, why=why))
 
 
 def count(pattern: str, what: str, kind: Callable[[str], Number],
@@ -74,7 +74,7 @@ def count(pattern: str, what: str, kind: Callable[[str], Number],
 
     def taken(word: str) -> Number:
         if not re.fullmatch(pattern, word) or kind(word) > most:
-            raise argparse.ArgumentTypeError(f"{word} isn't a number of {what}")
+            raise argparse.ArgumentTypeError(message("not_number", word=word, what=what))
         return kind(word)
 
     return taken
@@ -83,7 +83,7 @@ def count(pattern: str, what: str, kind: Callable[[str], Number],
 def nonempty(word: str) -> str:
     """Returns a file name. Raises ArgumentTypeError if it is empty."""
     if not word:
-        raise argparse.ArgumentTypeError("the name of the file is empty")
+        raise argparse.ArgumentTypeError(message("empty_name"))
     return word
 
 
@@ -99,8 +99,7 @@ def macro(word: str) -> tuple[str, str]:
     name, is_given, value = word.partition("=")
     is_name = re.fullmatch(IDENTIFIER, name)
     if not is_name or not value.isprintable() or value.endswith("\\"):
-        raise argparse.ArgumentTypeError(f"{word} isn't NAME or NAME=TEXT in one line, "
-                                         "such as WIDTH=8")
+        raise argparse.ArgumentTypeError(message("not_macro", word=word))
     return name, value if is_given else "1"
 
 
@@ -123,7 +122,8 @@ def engines(word: str) -> list[str]:
     names = word.replace("abc", "bmc3,pdr").split(",")
     if unknown := [name for name in names if name not in ROWS]:
         known = ", ".join([*ROWS, "abc"])
-        raise argparse.ArgumentTypeError(f"unknown engine {unknown[0]}; known engines: {known}")
+        why = message("unknown_engine", name=unknown[0], known=known)
+        raise argparse.ArgumentTypeError(why)
     return names
 
 
@@ -307,7 +307,7 @@ def take_top(parser: Parser, words: argparse.Namespace) -> None:
              if i and re.fullmatch(IDENTIFIER, word)]
     if names and names[0] < len(words.files) - 1 or names and words.top:
         behind = words.files[names[0] + 1 - bool(words.top):]
-        parser.error(f"unrecognized arguments: {' '.join(behind)}")
+        parser.error(message("unrecognized", words=" ".join(behind)))
     words.top = words.files.pop() if names else words.top
 
 
@@ -331,29 +331,27 @@ def check_together(parser: Parser, words: argparse.Namespace) -> None:
     """Exits with an error if queries are combined that can't be."""
     others = words.equal or words.certificate or words.run or words.each
     if words.justice is not None and (others or words.property is not None):
-        parser.error("--justice can't be combined with --equal, --certificate, --run, --each or "
-                     "--property")
+        parser.error(message("justice_alone"))
     if words.write_certificate and (words.certificate or words.run):
-        parser.error("--write-certificate can't be combined with --certificate or --run: it "
-                     "writes a certificate of aigprove's own answer")
+        parser.error(message("own_certificate"))
 
 
 def check_each(parser: Parser, words: argparse.Namespace) -> None:
     """Exits with an error if options for a table, for evidence or for two files are missing or
     can't be combined."""
-    alone = [f"--{name}" for name in ["json", "junit", "shortest"] if getattr(words, name)]
-    if alone and not words.each:
-        parser.error(f"{alone[0]} needs --each")
+    of_table = [f"--{name}" for name in ["json", "junit", "shortest"] if getattr(words, name)]
+    if of_table and not words.each:
+        parser.error(message("needs", option=of_table[0], other="--each"))
     single = ["equal", "certificate", "write_certificate", "run", "property", "aiger"]
     for name in single if words.each else ["equal"] if words.property is not None else []:
         if getattr(words, name) is not None and getattr(words, name) is not False:
-            option = "--each" if words.each else "--property"
-            parser.error(f"--{name.replace('_', '-')} can't be combined with {option}")
+            other = "--each" if words.each else "--property"
+            option = f"--{name.replace('_', '-')}"
+            parser.error(message("not_with", option=option, other=other))
     for name in ["starts", "constraints"]:
         if getattr(words, name) and not words.equal:
-            parser.error(f"--{name} needs --equal")
+            parser.error(message("needs", option=f"--{name}", other="--equal"))
     if words.tasks and not words.keep:
-        parser.error("--tasks needs --keep FOLDER")
+        parser.error(message("needs", option="--tasks", other="--keep FOLDER"))
     if words.gather and (words.keep or words.tasks):
-        parser.error("--gather can't be combined with --keep or --tasks: --keep FOLDER continues "
-                     "FOLDER")
+        parser.error(message("gather_alone"))
