@@ -1,9 +1,10 @@
 #!/usr/bin/env python3
-"""Writes the tables of docs/reference that say what aigprove --help says: generate.py [--check]
+"""Writes the tables of docs/reference about the options and messages of aigprove: generate.py [--check]
 
-They are made of the texts in lib/aigprove/options, as the help text and the man page are. Each stands between a line that names it and
-the line `<!-- end -->`. With --check nothing is written, and the exit status is 1 if a table isn't what would be written."""
+They are made of the texts in lib/aigprove/options, as the help text and the man page are, and of lib/aigprove/messages.txt, as the
+messages are. Each stands between a line that names it and the line `<!-- end -->`. With --check nothing is written, and the exit status is 1 if a table isn't what would be written."""
 import argparse
+import itertools
 import os
 import pathlib
 import re
@@ -14,6 +15,7 @@ TOP = pathlib.Path(os.path.realpath(__file__)).parent.parent
 sys.path.insert(0, str(TOP / "lib"))
 sys.dont_write_bytecode = True
 
+from aigprove.data import Message, messages
 from aigprove.options import parser, tables
 
 PLACE = re.compile(r"(<!-- (\w+): made by docs/generate.py -->\n).*?(<!-- end -->)", re.DOTALL)
@@ -67,7 +69,31 @@ def statuses() -> Iterator[str]:
     yield "\n"
 
 
-MADE = {"options": options, "engines": engines, "statuses": statuses}
+def spelled(message: Message) -> str:
+    """Returns the text of a message as code, in which `..` stands for fields."""
+    text = re.sub(r"(\{\w+\})+", "..", message.text).strip("; ").replace("|", "\\|")
+    return f"`` {text} ``" if "`" in text else f"`{text}`"
+
+
+def all_messages() -> Iterator[str]:
+    """Yields the messages by section: a table of those that are explained, and a list of the others."""
+    for section, group in itertools.groupby(messages().values(), lambda it: it.section):
+        yield f"\n### {section}\n\n"
+        # Those of fields alone pass on what another program says.
+        own = [it for it in group if re.search(r"\w", re.sub(r"\{\w+\}", "", it.text))]
+        explained = [it for it in own if it.meaning or it.remedy]
+        heads = ["Message", "Meaning", "What to do"]
+        rows = [[spelled(it), it.meaning.replace("|", "\\|"), it.remedy.replace("|", "\\|")] for it in explained]
+        width = 3 if any(it.remedy for it in explained) else 2
+        yield from table(heads[:width], [row[:width] for row in rows]) if rows else []
+        others = [it for it in own if it not in explained]
+        if others:
+            yield "\nOther messages of this kind:\n\n" if rows else ""
+            yield from (f"- {spelled(it)}\n".replace("\\|", "|") for it in others)
+    yield "\n"
+
+
+MADE = {"options": options, "engines": engines, "statuses": statuses, "messages": all_messages}
 
 
 def written(text: str) -> str:

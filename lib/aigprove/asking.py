@@ -1,4 +1,4 @@
-"""What a command line asks for: one question after the other, or a table."""
+"""Answers a command line: one query after the other, or a table."""
 import contextlib
 import os
 import signal
@@ -21,10 +21,10 @@ SIGNALS = [signal.SIGTERM, signal.SIGHUP, signal.SIGINT, signal.SIGALRM]
 
 
 def targets(options: Options, above: str, checker: Checker) -> Iterator[Target]:
-    """Yields what a command line asks about.
+    """Yields the targets of a command line.
 
-    Of a design those are its assertions, if it has some, and then each liveness assertion. What
-    only some questions need is imported for these."""
+    Those of a design are its assertions, if it has some, and then each liveness assertion. Modules
+    that only some targets need are imported for these."""
     if options.justice is not None:
         from aigprove.questions.justice import given_justice
 
@@ -51,7 +51,7 @@ def targets(options: Options, above: str, checker: Checker) -> Iterator[Target]:
 
 
 def asked(options: Options, above: str, checker: Checker) -> int:
-    """Asks one question after the other, up to the first that something reaches.
+    """Answers one query after the other, up to the first that finds a trace.
 
     Returns the exit status of all together."""
     inquiries: list[Inquiry] = []
@@ -60,7 +60,7 @@ def asked(options: Options, above: str, checker: Checker) -> int:
         for source in targets(options, above, checker):
             own = options
             if inquiries:
-                # A certificate is of what is asked first.
+                # The certificate is for the first query.
                 keep = os.path.join(options.keep, source.stem) if options.keep else None
                 own = options._replace(keep=keep, write_certificate=None)
             scope = Scope(checker.task.scheduler)
@@ -70,15 +70,16 @@ def asked(options: Options, above: str, checker: Checker) -> int:
                 break
             scope.stop()
     except (TranslationTimeout, Stopped) as why:
-        # What the question at hand has printed counts.
+        # An answer that is printed already counts.
         ended = next((it.printer.status for it in inquiries[len(statuses):]), None)
         if ended is None and not statuses:
             raise
         end_all(checker.task.scheduler)
         if ended is None:
-            # The assertions have their answer, and the time was over while the file of what is
-            # asked next was made, or while that was asked.
-            tell_late(str(why))
+            # The assertions are answered. The time was over while the file of the next query was
+            # being generated, or during that query.
+            if str(why):
+                say(why)
             print("undecided: nothing was shown of liveness")
         statuses.append(OPEN if ended is None else ended)
     finally:
@@ -86,16 +87,8 @@ def asked(options: Options, above: str, checker: Checker) -> int:
     return next((it for it in (UNSAFE, FAILED, OPEN) if it in statuses), SAFE)
 
 
-def tabled(options: Options, above: str, checker: Checker) -> int:
-    """Asks about each property by itself, and returns the exit status of all together."""
-    # What only tables need takes a while to be imported.
-    from aigprove.output.table import Table
-
-    return Table(options, checker, above).run()
-
-
 def end_evidence(inquiries: Sequence[Inquiry]) -> None:
-    """Ends what was kept of questions: the folders of the others are in that of the first."""
+    """Completes the evidence folders. Those of further queries are subfolders of the first."""
     kept = [(inquiry.evidence, inquiry.source) for inquiry in inquiries]
     for evidence, source in kept[1:]:
         if evidence and kept[0][0]:
@@ -105,15 +98,9 @@ def end_evidence(inquiries: Sequence[Inquiry]) -> None:
         kept[0][0].end()
 
 
-def tell_late(why: str) -> None:
-    """Says what was still at it when the time was over, if that is known."""
-    if why:
-        say(why)
-
-
 @contextlib.contextmanager
 def undisturbed() -> Iterator[None]:
-    """Passes over signals for a little while, so that none leaves anything behind."""
+    """Ignores signals for a moment, so that clean-up completes."""
     before = {number: signal.signal(number, signal.SIG_IGN) for number in SIGNALS}
     try:
         yield
@@ -123,15 +110,15 @@ def undisturbed() -> Iterator[None]:
 
 
 def end_all(scheduler: Scheduler) -> None:
-    """Ends all programs, and what they left."""
+    """Kills all programs, and the processes that they left."""
     scheduler.stop()
     bury()
 
 
 def answer(options: Options) -> int:
-    """Answers what a command line asks, and returns the exit status."""
+    """Answers a command line, and returns the exit status."""
     begun = time.monotonic()
-    # Processes are forked before there are threads.
+    # The scheduler forks a process, which has to be before there are threads.
     scheduler = Scheduler(options.jobs, options.memory)
     adopt()
     programs, task = options.programs, Scope(scheduler).task("main")
@@ -141,18 +128,24 @@ def answer(options: Options) -> int:
     above = new_folder(next(filter(os.path.isdir, temporary)), "aigprove")
     try:
         with limited(options.deadline):
-            return (tabled if options.each else asked)(options, above, checker)
+            if not options.each:
+                return asked(options, above, checker)
+            # Importing this module takes a while.
+            from aigprove.output.table import Table
+
+            return Table(options, checker, above).run()
     except (TranslationTimeout, Stopped) as why:
         late = str(why)
     finally:
         with undisturbed():
             end_all(scheduler)
             remove(above)
-    tell_late(late)
+    if late:
+        say(late)
     if options.each:
         from aigprove.output.report import Report
 
-        # What wasn't read has no properties so far.
+        # A file that wasn't read has no known properties.
         report = Report(options.files[0], [], seconds=time.monotonic() - begun, line=late)
         report.write(options.json, options.junit)
     print("2\n." if options.aiger else "undecided: nothing was shown")

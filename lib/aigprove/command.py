@@ -1,4 +1,4 @@
-"""The command line of aigprove."""
+"""The main function of aigprove."""
 import os
 import signal
 import sys
@@ -8,14 +8,15 @@ from typing import IO, NoReturn
 from aigprove.options.parser import parse
 from aigprove.output.messages import report
 
-# The exit status if something went wrong.
+# The exit status after an error.
 FAILED = 1
 
 
 def open_streams() -> None:
-    """Opens those of the three standard streams that are closed.
+    """Opens those of the three standard streams that are closed, so that no other file gets their
+    descriptors.
 
-    So no other file gets their numbers. What is printed to a closed standard output fails."""
+    Writing to a closed standard output then fails."""
     while (opened := os.open(os.devnull, os.O_RDONLY)) < 3:
         pass
     os.close(opened)
@@ -24,12 +25,13 @@ def open_streams() -> None:
 
 
 def end(number: int, _: object) -> NoReturn:
-    """Ends by a signal, after the folder was removed."""
+    """Handles a signal: exits, after removing temporary files."""
     sys.exit(128 + number)
 
 
-def hush(stream: IO[str], number: int) -> None:
-    """Has what a stream didn't take not be written again at the end."""
+def discard_rest(stream: IO[str], number: int) -> None:
+    """Discards what couldn't be written to a stream, so that Python doesn't try again at the
+    end."""
     try:
         stream.flush()
     except OSError:
@@ -37,10 +39,10 @@ def hush(stream: IO[str], number: int) -> None:
 
 
 def ended(line: Sequence[str]) -> int:
-    """Returns the exit status of a command line's answer, once all was printed."""
+    """Answers a command line, flushes standard output, and returns the exit status."""
     try:
         options = parse(line)
-        # What only an answer needs takes longer to be imported than words to be refused.
+        # Importing this takes longer than refusing a command line.
         from aigprove.asking import answer
 
         return answer(options)
@@ -51,7 +53,7 @@ def ended(line: Sequence[str]) -> int:
 
 
 def main() -> NoReturn:
-    """Answers the command line of this process, and ends it."""
+    """Answers the command line of this process, and exits."""
     open_streams()
     for number in [signal.SIGTERM, signal.SIGHUP]:
         signal.signal(number, end)
@@ -64,7 +66,7 @@ def main() -> NoReturn:
     except Exception as error:
         report(error, not {"-v", "--verbose"}.isdisjoint(sys.argv))
         status = FAILED
-    hush(sys.stdout, 1)
-    hush(sys.stderr, 2)
-    # All is done, and no thread is waited for.
+    discard_rest(sys.stdout, 1)
+    discard_rest(sys.stderr, 2)
+    # Threads that still run aren't awaited.
     os._exit(status)

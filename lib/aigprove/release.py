@@ -1,8 +1,8 @@
-"""Which release the programs are of, as ./dist writes it beside them, and prebuilt programs.
+"""The release of the programs, which ./dist writes beside them, and prebuilt programs.
 
-The folder prebuilt/ of a clone has programs of the last release. They are used only if they were
-built from the crates that the clone has: by the sum that git knows them by, which is computed here
-of the files, so that neither git nor the toolchain is needed."""
+The folder prebuilt/ of a clone has the programs of the last release. They are used only if they
+were built from the crates of the clone: if these have the same git tree hash. It is computed here,
+so that neither git nor the toolchain is needed."""
 import functools
 import hashlib
 import json
@@ -13,6 +13,7 @@ from collections.abc import Iterator
 from typing import NamedTuple
 
 from aigprove import VERSION
+from aigprove.data import message
 
 FILE, PREBUILT = "release.json", "prebuilt"
 # What the programs of a release need: a machine, and a version of the C library.
@@ -22,8 +23,8 @@ LEFT = {"out", "__pycache__"}
 
 
 class Release(NamedTuple):
-    """A release: its version, the tree of crates/ that its programs were built from, the kit that
-    built them, the tools that linked the shared library, and the sums of files."""
+    """A release: its version, the tree hash of crates/, the toolchain, the linkers of the shared
+    library, and the checksums of files."""
 
     version: str
     tree: str
@@ -36,7 +37,7 @@ class Release(NamedTuple):
 
 
 def read(folder: str) -> Release | None:
-    """Returns the release that a folder tells of, if it does."""
+    """Returns the release that is recorded in a folder, or None."""
     try:
         with open(os.path.join(folder, FILE), encoding="utf-8") as file:
             return Release(**json.load(file))
@@ -45,18 +46,17 @@ def read(folder: str) -> Release | None:
 
 
 def written(release: Release) -> bytes:
-    """Returns the text that `read` reads."""
+    """Returns the text of a release, which `read` reads."""
     return (json.dumps(release._asdict(), indent=2) + "\n").encode()
 
 
 def object_sum(kind: str, data: bytes) -> bytes:
-    """Returns the sum that git knows an object by."""
+    """Returns the git hash of an object."""
     return hashlib.sha1(f"{kind} {len(data)}\0".encode() + data, usedforsecurity=False).digest()
 
 
 def entry(path: os.DirEntry[str]) -> tuple[str, bytes] | None:
-    """Returns the mode and the sum of a file, a link or a folder that isn't empty, as git has
-    them."""
+    """Returns the git mode and hash of a file, a link or a folder; None for an empty folder."""
     if path.is_symlink():
         return "120000", object_sum("blob", os.fsencode(os.readlink(path)))
     if path.is_dir():
@@ -68,7 +68,7 @@ def entry(path: os.DirEntry[str]) -> tuple[str, bytes] | None:
 
 
 def tree_object(folder: str) -> bytes:
-    """Returns the object by which git knows what is in a folder."""
+    """Returns the git tree object of a folder."""
     with os.scandir(folder) as scanned:
         found = [(path.name, it) for path in scanned
                  if path.name not in LEFT and (it := entry(path))]
@@ -80,45 +80,48 @@ def tree_object(folder: str) -> bytes:
 
 @functools.cache
 def tree_of(crates: str) -> str:
-    """Returns the sum that git has for the folder of crates."""
+    """Returns the git tree hash of the folder of crates."""
     return object_sum("tree", tree_object(crates)).hex()
 
 
 def of_clone(top: str) -> Release | None:
-    """Returns the release of a clone's prebuilt programs, if they are of its own crates."""
+    """Returns the release of a clone's prebuilt programs, if they were built from its crates, and
+    otherwise None."""
     known = read(os.path.join(top, PREBUILT))
     return known if known and known.tree == tree_of(os.path.join(top, "crates")) else None
 
 
 def unfit() -> str:
-    """Returns why the programs of a release can't run on this system; nothing if they can."""
+    """Returns the end of a message that the programs of a release can't run on this system. It is
+    empty if they can."""
     machine, name = os.uname().machine, "CS_GNU_LIBC_VERSION"
     library = os.confstr(name) if name in os.confstr_names else None
     number = [int(it) for it in re.findall("[0-9]+", library or "")]
     if machine == MACHINE and (*number,) >= GLIBC:
         return ""
-    return "need Linux on x86-64 with glibc {}.{} or later, and this is {} with {}".format(
-        *GLIBC, machine, library or "another C library")
+    return message("unfit_release", folder=PREBUILT, version="{}.{}".format(*GLIBC),
+                   machine=machine, library=library or "another C library")
 
 
 def hint(top: str, name: str, is_prebuilt: bool) -> str:
-    """Returns why a program in prebuilt/ of a clone isn't run, as the end of a message; nothing if
-    there is no such folder."""
+    """Returns the end of a message that says why a program in prebuilt/ of a clone isn't run. It is
+    empty if there is no such folder."""
     known = read(os.path.join(top, PREBUILT))
     if not known:
         return ""
     if why := unfit():
-        return f"; the programs in {PREBUILT}/ {why}"
+        return why
     if is_prebuilt or of_clone(top):
-        return f"; {PREBUILT}/{name} isn't there, or may not be executed"
-    return f"; --prebuilt runs the programs of release {known.version}, which were built from " \
-        "other crates"
+        return message("no_prebuilt", folder=PREBUILT, name=name)
+    return message("other_release", version=known.version)
 
 
 def places(top: str, name: str, is_prebuilt: bool) -> Iterator[str]:
-    """Yields where a program may be, in order: where programs are installed below a folder, beside
-    the script that runs, where they are built, in prebuilt/ if that is of the same crates, and in
-    PATH. Yields prebuilt/ alone if its programs are asked for. Those have to run on this system."""
+    """Yields the paths where a program may be, in order: installed below a folder, beside the
+    running script, where it is built, in prebuilt/ if that fits the crates and runs on this system,
+    and in PATH.
+
+    Yields at most the path in prebuilt/ if `is_prebuilt`."""
     if not is_prebuilt:
         beside = os.path.dirname(os.path.realpath(sys.argv[0]))
         for folder in [os.path.join(top, "bin"), beside, os.path.join(top, "crates", name, "out")]:
@@ -130,8 +133,8 @@ def places(top: str, name: str, is_prebuilt: bool) -> Iterator[str]:
 
 
 def programs(top: str, is_prebuilt: bool) -> str:
-    """Returns which release, crates and kit the programs below a folder are of, which may be those
-    in prebuilt/."""
+    """Returns which release, crates and toolchain the programs below a folder come from. If
+    `is_prebuilt`, these are the programs in prebuilt/."""
     crates = os.path.join(top, "crates")
     if is_prebuilt and (known := read(os.path.join(top, PREBUILT))):
         return str(known)
@@ -143,5 +146,5 @@ def programs(top: str, is_prebuilt: bool) -> str:
 
 
 def version(top: str, is_prebuilt: bool) -> str:
-    """Returns what --version prints."""
+    """Returns the output of `--version`."""
     return f"aigprove {VERSION}\nprograms: {programs(top, is_prebuilt)}\n"

@@ -30,7 +30,7 @@ STEPS = {
         SAFE,
     ),
     "what isn't enabled is 0": (
-        "modules.settle = lambda block: None",
+        "modules.clear_disabled = lambda block: None",
         "module top(input clk, e, d); always @(posedge clk) if (e) assert (d); endmodule",
         "step 0: d=0 e=1 | step 1:",
     ),

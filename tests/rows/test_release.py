@@ -83,7 +83,7 @@ def test_systems(checks: Checks, programs: dict[str, pathlib.Path],
                  monkeypatch: pytest.MonkeyPatch) -> None:
     """Programs of a release are for a machine and a C library, which has what they ask for."""
     checks.wants("the C library", elf.glibc(programs.values()), release.GLIBC)
-    needs = "need Linux on x86-64 with glibc 2.34 or later, and this is"
+    needs = "; the programs in prebuilt/ need Linux on x86-64 with glibc 2.34 or later, and this is"
     for machine, version, wanted in [
         ("x86_64", "glibc 2.34", ""), ("x86_64", "glibc 2.100", ""), ("x86_64", "glibc 3.0", ""),
         ("x86_64", "glibc 2.9", f"{needs} x86_64 with glibc 2.9"),
@@ -199,9 +199,9 @@ def test_prebuilt_refused(checks: Checks, folder: pathlib.Path, programs: dict[s
     (folder / "prebuilt" / name).chmod(0o755)
     places = list(release.places(str(folder), name, True))
     checks.wants("the place", [str(folder / "prebuilt" / name)], places)
-    monkeypatch.setattr(release, "unfit", lambda: "need another system")
+    monkeypatch.setattr(release, "unfit", lambda: "; another system is needed")
     for is_prebuilt in [True, False]:
-        checks.wants("the hint", "; the programs in prebuilt/ need another system",
+        checks.wants("the hint", "; another system is needed",
                      release.hint(str(folder), name, is_prebuilt))
         checks.check(places[0] not in release.places(str(folder), name, is_prebuilt), "not run")
 

@@ -345,7 +345,7 @@ def faulty() -> (
             ["a" * 300, f"{'a' * 300}: File name too long"],
             ["-f itself", "itself includes itself"],
             ["-f listed", "listed: -x is neither a file nor -D, -I or -f"],
-            ["t.aag --top nope", "t.aag is no design, so it has no module nope"],
+            ["t.aag --top nope", "t.aag isn't a design, so it has no module nope"],
             ["t.aag --keep locked", "locked: File exists"],
             ["t.aag --keep a/b", "a/b: No such file or directory"],
             ["t.aag --run missing", "missing: No such file or directory"],

@@ -13,7 +13,7 @@ from aiger import Machine
 from lasso_search import Steps, reachable
 from machines import NAMES, random_machine, renumbered
 
-from aigprove.circuits.aiger import Gates, literals_of
+from aigprove.circuits.gates import Gates, literals_of
 
 CONDITIONS = ["reset", "transition", "property", "base", "step"]
 # How many inputs and latches both have at most, where each leaf that is shared counts once.

@@ -16,12 +16,12 @@ carries it:
   `untested` where no test has its words.
 - `none`: it is no line, and why. ` | ` stands between texts, and `..` behind one that begins so.
 
-Looked for is each string and byte in the code of the crates below the programs; and in aigprove,
-docstrings and bytes aside, each string that has a blank in it, is given to a call that tells
-something, is yielded, or is a word of a table. This fails where one of these stands in no row, or
-in a file of code more often than in its rows; and where a row has another text, names a definition,
-test or line of aigcheck that isn't there, has words that no definition has which it names, or words
-that the test hasn't.
+Looked for is each string and byte in the code of the crates below the programs; in aigprove, each
+message of messages.txt; and in its modules, docstrings and bytes aside, each string that has a
+blank in it, is given to a call that tells something, is yielded, or is a word of a table. This
+fails where one of these stands in no row, or in a file of code more often than in its rows; and
+where a row has another text, names a definition, test or line of aigcheck that isn't there, has
+words that no definition has which it names, or words that the test hasn't.
 """
 from __future__ import annotations
 
@@ -40,16 +40,18 @@ PROGRAMS = ["aigtool", "aigedit", "aigcheck"]
 # The name of aigprove's package in the places of rows.
 PACKAGE = "aigprove"
 MODULES = TOP / "lib" / PACKAGE
+# The file of the package with a message in each line, behind its name.
+MESSAGES = "messages.txt"
 # Calls that tell what they are given; modules whose words are cells of tables; and calls whose
 # arguments are patterns and names.
 TELLING = {
     "print", "print_line", "say", "tell", "show_progress", "fault", "error", "Fault", "Missing",
-    "Late", "ArgumentTypeError",
+    "TranslationTimeout", "ArgumentTypeError",
 }
 WORDED = {"report.py", "signals.py"}
 PASSED = {
     "namedtuple", "compile", "fullmatch", "search", "sub", "decode", "encode", "startswith",
-    "endswith", "removesuffix", "split",
+    "endswith", "removesuffix", "split", "message",
 }
 STREAMS = {"out", "err", "both", "part", "file", "-"}
 CARRIERS = ["clause", "when", "never", "aigcheck", "tested", "text", "untested", "none"]
@@ -163,7 +165,10 @@ def sources() -> dict[str, dict[str, int]]:
         ].update(dict.fromkeys(map(spelled, texts), 1))
     # Texts that the package prints, or writes into files, stand in files of their own, too.
     for path in [*MODULES.rglob("*.txt"), *MODULES.rglob("*.sh")]:
-        found[f"{PACKAGE}/{path.relative_to(MODULES)}"].update([spelled(path.read_text())])
+        text = path.read_text()
+        cells = [line.split("\t") for line in text.splitlines()]
+        own = [row[1] for row in cells if len(row) > 1] if path.name == MESSAGES else [text]
+        found[f"{PACKAGE}/{path.relative_to(MODULES)}"].update(map(spelled, own))
     return {
         place: {text: count for text, count in texts.items() if text.replace("{}", "")}
         for place, texts in found.items()

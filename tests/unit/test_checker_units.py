@@ -115,7 +115,8 @@ def test_words(checks: Checks, four_jobs: Scheduler, folder: pathlib.Path) -> No
     ]:
         checker = programs(folder, four_jobs, echo, limit)
         checks.wants("text", f"{text} F\n".encode(), checker.text(file).data())
-        checks.wants("made", f"{before}live F 3\n".encode(), checker.made("live", file, 3).data())
+        live = checker.transformed("live", file, 3)
+        checks.wants("transformed", f"{before}live F 3\n".encode(), live.data())
         for question, wanted in [
             (Question("query", 2), f"{clauses} F 2\n"),
             (Question("bounded", 2), f"{before}bounded F 2\n"),
@@ -257,7 +258,7 @@ def test_claims(checks: Checks) -> None:
     ]:
         checks.wants(line, (line, asked.split(" ")), (claim.line, list(claim.words)))
     checks.wants(
-        "told", "no bad state at step 2", file.unsolvable(Question("query", 2), proof).told
+        "told", "no bad state at step 2", file.unsolvable(Question("query", 2), proof).printed
     )
 
 

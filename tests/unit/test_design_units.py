@@ -25,7 +25,7 @@ from harness import Checks
 
 from aigprove.circuits.aiger import Fault
 from aigprove.circuits.witness import Witness
-from aigprove.designs import netlist, scripts, verilog
+from aigprove.designs import scripts, verilog
 from aigprove.designs import yosys as runner
 from aigprove.designs.front_ends import (
     AGAIN, ASSERT, COVER, DECLARED, DECLARED_LATER, LIVE, LOOKING, STRICT, File, TranslationTimeout,
@@ -33,13 +33,16 @@ from aigprove.designs.front_ends import (
 )
 from aigprove.designs.modules import Cell
 from aigprove.designs.names import Hierarchy, Module, Names, Net, Shape, Trees, Use, nodes, warned
-from aigprove.designs.reading import ReadDesign, asked_below
+from aigprove.designs.reading import ReadDesign, assertions_below
 from aigprove.designs.rtlil import Statement, modules_of, parse, write
 from aigprove.designs.verilog import Design, place_of
 from aigprove.designs.yosys import LONGEST, Yosys
 from aigprove.options.options import DesignOptions, Reset
 from aigprove.processes.scheduler import Stopped
 
+MULTICLOCK = (
+    "--multiclock takes any, and a step is then a moment in which inputs and clocks may change"
+)
 FOLDER = re.compile(r"/proc/self/fd/\d+")
 
 
@@ -468,7 +471,7 @@ class Told:
     def design(self, name: str) -> Statement:
         return self.designs[name]
 
-    def told(self, said: str) -> str:
+    def readable(self, said: str) -> str:
         return said.replace("t.v", "my.v")
 
 
@@ -806,7 +809,7 @@ def test_copies(checks: Checks, folder: pathlib.Path) -> None:
     ]
     with set_path(folder, []):
         checks.wants(
-            "no yosys", "yosys is not installed, which makes a file of a design",
+            "no yosys", "yosys is not installed; it is needed to read designs",
             refused(a_yosys, folder, None),
         )
     yosys, _ = a_yosys(folder, None, files)
@@ -902,7 +905,7 @@ def test_files_of(checks: Checks, folder: pathlib.Path) -> None:
     )
     checks.wants("so long", 1000, LONGEST)
     yosys.meanings = {"/fd/1": "a\nb", "/fd/12": "c", "/fd/12/d": "e\x1b"}
-    checks.wants("told", "e\\x1b c/x a\\x0ab 3", yosys.told("/fd/12/d /fd/12/x /fd/1 3"))
+    checks.wants("told", "e\\x1b c/x a\\x0ab 3", yosys.readable("/fd/12/d /fd/12/x /fd/1 3"))
 
 
 WARNINGS = """/fd/1/0/source/design.v:3: Warning: Range select
@@ -955,7 +958,7 @@ def test_runs(checks: Checks, folder: pathlib.Path) -> None:
     other, _ = a_yosys(folder, lambda *_: "Warning: here\n")
     other.run("")
     checks.wants("it warns", [f"{folder}/t.v: yosys warns: here"], other.warnings)
-    late = f"{folder}/t.v: yosys was still at it when the time was over"
+    late = f"{folder}/t.v: timed out while yosys was still reading the design"
     other, task = a_yosys(folder, lambda *_: "", deadline=time.monotonic() - 1)
     checks.wants("late", (late, []), (refused(other.run, ""), task.scripts))
     other, task = a_yosys(folder, lambda *_: ("", None, True))
@@ -1042,7 +1045,7 @@ def test_reads(checks: Checks, folder: pathlib.Path) -> None:
         place = re.sub(
             r"FD(\d)", lambda found: f"/proc/self/fd/{yosys.descriptors[int(found[1])]}", name
         )
-        checks.wants(name, meaning, yosys.told(place))
+        checks.wants(name, meaning, yosys.readable(place))
     failing, _ = a_yosys(folder, lambda *_: ("ERROR: early\n", 1, False))
     checks.wants("not ready", "ERROR: early", refused(failing.read, script, [], texts))
     ready, _ = a_yosys(folder, lambda *_: ("ERROR: later\n", 1, True))
@@ -1169,7 +1172,7 @@ def test_one_reading(checks: Checks, folder: pathlib.Path) -> None:
     checks.wants(
         "what there is", ("top", [], False, False, "", "", scripts.FLAT),
         (
-            design.top, design.left_out, design.has_covers, design.has_lives, design.partial,
+            design.top, design.unchecked, design.has_covers, design.has_lives, design.partial,
             design.memories, design.flat,
         ),
     )
@@ -1243,14 +1246,14 @@ def test_one_reading(checks: Checks, folder: pathlib.Path) -> None:
 def test_refusals(checks: Checks, folder: pathlib.Path) -> None:
     """Designs that are refused."""
     for options, answer, why in [
-        ({"top": "1top"}, ONE, "1top is no name of a module"),
+        ({"top": "1top"}, ONE, "1top isn't a name of a module"),
         ({}, "", "{}/t.v has no module"),
         (
             {},
             asserting("\\top", attributes=()),
             "{}/t.v has no module that isn't empty or a black box",
         ),
-        ({"black_box": ("none",)}, ONE, "none is no module of the design"),
+        ({"black_box": ("none",)}, ONE, "the design has no module none"),
         ({}, ONE + asserting("\\box", attributes=("blackbox 1",)), None),
         (
             {},
@@ -1347,7 +1350,7 @@ def test_refusals(checks: Checks, folder: pathlib.Path) -> None:
         reader.read(deadline=time.monotonic() - 1)
     except TranslationTimeout as why:
         checks.wants(
-            "late", f"{folder}/t.v: yosys was still at it when the time was over", str(why)
+            "late", f"{folder}/t.v: timed out while yosys was still reading the design", str(why)
         )
 
 
@@ -1379,7 +1382,8 @@ def test_rewriting(checks: Checks, folder: pathlib.Path) -> None:
         wanted in open(design.yosys.place("0/source/design.v"), "rb").read(),
         "the text isn't written otherwise",
     )
-    checks.wants("its place", ("t.v:3", "x"), (design.told("t.v:3.120-4.9"), design.told("x")))
+    locations = [design.location(place) for place in ("t.v:3.120-4.9", "x")]
+    checks.wants("its place", ["t.v:3", "x"], locations)
     # Each later reading takes the same texts, and a fault of it is its own.
     other = asserting("\\top", ("$cover", "\\c")) + asserting("\\better", ("$assert", "\\a"))
     reader = Reader(folder, unread, (other, asserting("\\top"), ""), ONE, expanded=shown)
@@ -1464,10 +1468,10 @@ def test_tops(checks: Checks, folder: pathlib.Path) -> None:
         ("", "liveness assertion other (t.v:12.3-12.9) is not asked about"),
         ("", "assumption other.as (t.v:13.3-13.9) is not asked about"),
     ]
-    checks.wants("left out", wanted, design.left_out)
+    checks.wants("left out", wanted, design.unchecked)
     checks.wants("kinds", ("top", True, True), (design.top, design.has_covers, design.has_lives))
     design = Reader(folder, (whole + other, whole, "")).read(multiclock=True)
-    lived = [line for _, line in design.left_out if "liveness" in line or "fairness" in line]
+    lived = [line for _, line in design.unchecked if "liveness" in line or "fairness" in line]
     checks.wants(
         "with several clocks", (False, True),
         (
@@ -1478,14 +1482,14 @@ def test_tops(checks: Checks, folder: pathlib.Path) -> None:
     checks.wants(
         "and kinds",
         [("", "fairness assumption top.f (t.v:15.3-15.9) is not asked about with --multiclock")],
-        [it for it in design.left_out if "fairness" in it[1]],
+        [it for it in design.unchecked if "fairness" in it[1]],
     )
     reader = Reader(folder, (whole + other, whole, ""))
     design = reader.read(top="top")
     checks.wants(
         "a top that is named", (True, "hierarchy -check -top top"),
         (
-            all("top module" not in line for _, line in design.left_out),
+            all("top module" not in line for _, line in design.unchecked),
             reader.scripts(design)[0][2],
         ),
     )
@@ -1518,7 +1522,7 @@ def test_tops(checks: Checks, folder: pathlib.Path) -> None:
                 [script[2].removeprefix("hierarchy -check ") for script in reader.scripts(design)],
             ),
         )
-        told = [line for kind, line in design.left_out if "top module" in line]
+        told = [line for kind, line in design.unchecked if "top module" in line]
         checks.wants(
             "others",
             [
@@ -1533,7 +1537,7 @@ def test_tops(checks: Checks, folder: pathlib.Path) -> None:
     checks.wants(
         "asked below", [3, 1, 0],
         [
-            asked_below(cells_of_all(whole + other), names)
+            assertions_below(cells_of_all(whole + other), names)
             for names in [{"top", "low"}, {"low"}, set()]
         ],
     )
@@ -2223,19 +2227,20 @@ def test_bad_designs(checks: Checks, folder: pathlib.Path) -> None:
     ports = {**PORTS, "rst": {"direction": "output", "bits": [3]}}
     wide = {**PORTS, "rst": {"direction": "input", "bits": [3, 9]}}
     reset = Reset("rst", 1, 1)
-    why = "top has no input {} of one bit that could be a reset"
+    why = "module top has no one-bit input named {}"
+    clock = "module top: clk is the clock, and can't be the reset"
     for module, drawn, options, wanted in [
         (with_cells(), {**with_cells(), "ports": ports}, {"reset": reset}, why.format("rst")),
         (with_cells(), {**with_cells(), "ports": wide}, {"reset": reset}, why.format("rst")),
         (with_cells(), None, {"reset": Reset("none", 1, 1)}, why.format("none")),
-        (with_cells(), None, {"reset": Reset("clk", 1, 1)}, why.format("clk")),
+        (with_cells(), None, {"reset": Reset("clk", 1, 1)}, clock),
         ({**with_cells(), "ports": ports}, with_cells(), {"reset": reset}, why.format("rst")),
         (with_cells(), None, {"reset": reset}, None),
         (
             with_cells(),
             {**with_cells(), "netnames": {**NETS, "t": net("z")}},
             {},
-            "top: t is z at times, and tristate is not taken",
+            "top: t can be z; tri-state nets are not supported",
         ),
         (
             with_cells(
@@ -2245,7 +2250,7 @@ def test_bad_designs(checks: Checks, folder: pathlib.Path) -> None:
             {},
             (
                 "top has several clocks, and one "
-                f"is taken: clk (falling) and clk (rising) ({netlist.MANY})"
+                f"is taken: clk (falling) and clk (rising) ({MULTICLOCK})"
             ),
         ),
     ]:
@@ -2277,7 +2282,7 @@ def test_bad_designs(checks: Checks, folder: pathlib.Path) -> None:
         make(place, script), maker.put(place, free_json={"1x": maker.module}),
     )[0]
     maker.later = maker.make
-    checks.wants("the top", "1x is no name of a module", refused(maker.design))
+    checks.wants("the top", "1x isn't a name of a module", refused(maker.design))
     empty = Maker(folder)
     empty.later = lambda place, script: (
         empty.make(place, script),

@@ -15,12 +15,15 @@ from harness import Checks
 
 from aigprove.designs import modules, netlist
 from aigprove.designs.internal import without_internal
-from aigprove.designs.modules import opened
+from aigprove.designs.modules import free_unknowns
 from aigprove.designs.ordering import Assertion, order_of, ordered
 from aigprove.designs.registers import widened
 from aigprove.designs.rtlil import Statement, modules_of, parse, write
 from aigprove.designs.texts import Text, bound, expanded, moved
 
+MULTICLOCK = (
+    "--multiclock takes any, and a step is then a moment in which inputs and clocks may change"
+)
 HEAD = '\nattribute \\src "t.v:1.1-9.10"\nmodule \\top\n  wire width 2 \\y\n'
 # A part of a module, and what stands there once each x is free: wires of so many bits, and the
 # part.
@@ -82,7 +85,7 @@ WITHOUT = """  process $p
       update \\q $0\\q
   end
 """
-LET_GO = [
+DROPPED = [
     ("  wire width 4 \\v\n" + EDGES.format("4'x", "posedge \\rst"), True),
     (
         "  attribute \\init 4'0000\n  wire width 4 \\v\n" + EDGES.format("4'x", "posedge \\rst"),
@@ -588,20 +591,21 @@ def test_opened(checks: Checks, part: str, widths: list[int], wanted: str) -> No
     """What isn't driven, or is x, becomes a wire of its own, which may have any value."""
     wires = "".join(f"  wire width {width} $free${i}\n" for i, width in enumerate(widths, 1))
     head = HEAD.lstrip().replace("module \\top\n", f"module \\top\n{wires}")
-    checks.wants(part, f"{head}{wanted}end\n", changed(opened, f"{HEAD}{part}end\n"))
+    checks.wants(part, f"{head}{wanted}end\n", changed(free_unknowns, f"{HEAD}{part}end\n"))
 
 
 @pytest.mark.parametrize("part", STAYS)
 def test_opened_stays(checks: Checks, part: str) -> None:
     """What stays as it is."""
-    checks.wants(part, f"{HEAD.lstrip()}{part}end\n", changed(opened, f"{HEAD}{part}end\n"))
+    checks.wants(part, f"{HEAD.lstrip()}{part}end\n", changed(free_unknowns, f"{HEAD}{part}end\n"))
 
 
-@pytest.mark.parametrize("part, is_dropped", LET_GO)
-def test_let_go(checks: Checks, part: str, is_dropped: bool) -> None:
-    """Edges of a process that can be let go."""
+@pytest.mark.parametrize("part, is_dropped", DROPPED)
+def test_dropped_updates(checks: Checks, part: str, is_dropped: bool) -> None:
+    """Updates to x at edges of a process that are dropped."""
     kept = changed(
-        lambda design: [modules.let_go(it) for it in design.of("module")], f"{HEAD}{part}end\n"
+        lambda design: [modules.drop_unknown_updates(it) for it in design.of("module")],
+        f"{HEAD}{part}end\n",
     )
     wanted = part.replace(EDGES.format("4'x", "posedge \\rst"), WITHOUT) if is_dropped else part
     checks.wants(part, f"{HEAD.lstrip()}{wanted}end\n", kept)
@@ -659,7 +663,8 @@ def test_settled(
     text, made = (
         "".join(f"{indent}assign {line}\n" for line in given) for given in (lines, wanted)
     )
-    again = changed(opened, f"module \\top\n  process $p\n{switch}{text}{behind}  end\nend\n")
+    whole = f"module \\top\n  process $p\n{switch}{text}{behind}  end\nend\n"
+    again = changed(free_unknowns, whole)
     checks.wants(
         lines,
         f"  process $p\n{switch}{made}{behind}  end\nend\n",
@@ -674,7 +679,7 @@ def test_parallel_case(checks: Checks) -> None:
         "    switch \\s\n    end\n  end\n"
     )
     wanted = f"{HEAD.lstrip()}{case}end\n".replace("    attribute \\parallel_case 1\n", "")
-    checks.wants("a case that is parallel", wanted, changed(opened, f"{HEAD}{case}end\n"))
+    checks.wants("a case that is parallel", wanted, changed(free_unknowns, f"{HEAD}{case}end\n"))
 
 
 @pytest.mark.parametrize("part, wanted", GIVEN_ONCE)
@@ -936,7 +941,7 @@ def test_netlists(checks: Checks) -> None:
             "top: y has several drivers",
         ),
         ([cell("$not", A=[2], Y=["0"])], "top: a constant has several drivers"),
-        ([cell("$not", A=["z"], Y=[4])], "top: y is z at times, and tristate is not taken"),
+        ([cell("$not", A=["z"], Y=[4])], "top: y can be z; tri-state nets are not supported"),
         ([cell("$not", A=[3], Y=[2]), cell("$not", A=[2], Y=[4])], "top: a has several drivers"),
     ]
     drivers += [
@@ -953,7 +958,7 @@ def test_netlists(checks: Checks) -> None:
         ),
         (
             [{**cell("$assert", A=["z"]), "port_directions": {"A": "input"}}],
-            "top: a constant is z at times, and tristate is not taken",
+            "top: a constant can be z; tri-state nets are not supported",
         ),
         # Names that yosys made: one with a place, one on which y depends, and one on which nothing
         # does that the design names.
@@ -1035,7 +1040,7 @@ def test_netlists(checks: Checks) -> None:
     z = {**nets, "t": net(8, "z")}
     checks.wants(
         "a net",
-        "top: t is z at times, and tristate is not taken",
+        "top: t can be z; tri-state nets are not supported",
         is_refused(netlist.check_drivers, "top", module(z, [], ["a"])),
     )
     output = {
@@ -1086,19 +1091,17 @@ def test_netlists(checks: Checks) -> None:
         ([register, cell("$not", A=[5], Y=[4])], "reads its clock clk"),
         (
             [cell("$dff", CLK=[4], D=[2], Q=[6])],
-            f"top makes its clock itself, and one that is an input is taken: y ({netlist.MANY})",
+            f"top generates its clock itself; the clock has to be an input: y ({MULTICLOCK})",
         ),
-        ([cell("$dff", CLK=[7], D=[2], Q=[6])], f"taken: {PLACED} ("),
-        ([cell("$dff", CLK=[8], D=[2], Q=[6])], "taken: what q depends on ("),
+        ([cell("$dff", CLK=[7], D=[2], Q=[6])], f"has to be an input: {PLACED} ("),
+        ([cell("$dff", CLK=[8], D=[2], Q=[6])], "has to be an input: what q depends on ("),
         (
             [cell("$dff", CLK=[7], D=[2], Q=[6]), register],
             f"top has several clocks, and one is taken: {PLACED} (rising) and clk (rising)",
         ),
     ]
-    many = (
-        "top has several clocks, and one is taken: clk (falling) and clk (rising) (--multiclock"
-        " takes any, and a step is then a moment in which inputs and clocks may change)"
-    )
+    both = "clk (falling) and clk (rising)"
+    many = f"top has several clocks, and one is taken: {both} ({MULTICLOCK})"
     checks.wants(
         "both edges",
         many,
@@ -1119,7 +1122,7 @@ def test_netlists(checks: Checks) -> None:
         )
     checks.wants(
         "a constant",
-        "top makes its clock itself, and one that is an input is taken: a constant",
+        "top generates its clock itself; the clock has to be an input: a constant",
         str(
             is_refused(
                 netlist.clock_of,

@@ -1,2 +1,2 @@
-"""Circuits in AIGER form: reading, simulating, normalising and writing them, and their witnesses
-and certificates."""
+"""Circuits in AIGER format: reads, simulates, normalises and writes them, their witnesses and their
+certificates."""

@@ -1,50 +1,60 @@
-"""Reads and writes AIGER files, text and binary, as lists of literals and gates over these."""
+"""Reads and writes AIGER files, in text and binary format, as lists of literals and gates."""
 from __future__ import annotations
 
 import contextlib
 import copy
 import itertools
 import re
-from collections.abc import Callable, Iterable, Iterator, Mapping, Sequence
-from typing import Any, cast
+from collections.abc import Iterable, Iterator, Sequence
+from typing import TYPE_CHECKING, Any, cast
+
+from aigprove.circuits.gates import Gate, Gates, cone
+from aigprove.data import message
+
+if TYPE_CHECKING:
+    from typing import Self
 
 KINDS = {"i": "inputs", "l": "latches", "o": "outputs", "b": "bads", "c": "constraints"}
 LIMIT = 1 << 24
-# How many lines of numbers are read at once.
+# The number of lines that are read at once.
 BLOCK = 1 << 14
 COMMENT = re.compile(rb"c(?![0-9])")
-# The groups of a number in binary form behind which there is another.
+# The bytes of a binary number behind which there is another.
 GOES_ON = bytes(range(128, 256))
-# A gate and its operands, by their literals; and names by letter and position.
-Gate = tuple[int, int, int]
+# The names of signals, by letter and position.
 Names = dict[tuple[str, int], bytes]
 
 
 class Fault(Exception):
-    """An error: why a file is refused, or why there is no answer."""
+    """An error with a message for the user: a file is refused, or a query has no answer."""
+
+    @classmethod
+    def of(cls, name: str, /, **fields: object) -> Self:
+        """Returns the error with the message of this name, in which these fields are filled in."""
+        return cls(message(name, **fields))
 
 
 def decimal(digits: bytes) -> int:
-    """Returns the number that digits spell, however many zeros stand before it; ten digits are
-    enough for any that a file has."""
+    """Returns the number that digits spell. Raises Fault if it has more than ten digits, leading
+    zeros aside."""
     spelled = digits.lstrip(b"0")
     if len(spelled) > 10:
-        raise Fault("a number has more than ten digits")
+        raise Fault.of("many_digits")
     return int(spelled or b"0")
 
 
 def decoded(name: bytes) -> str:
-    """Returns a name of a file as a text, whatever bytes it has."""
+    """Returns a name in a file as text. Bytes that aren't UTF-8 become surrogates."""
     return name.decode("utf-8", "surrogateescape")
 
 
 def encoded(name: str) -> bytes:
-    """Returns the bytes of such a text."""
+    """Returns the bytes of a text that `decoded` returned."""
     return name.encode("utf-8", "surrogateescape")
 
 
 class Lines:
-    """A stream of bytes that is read from the front, with the name that errors give it."""
+    """A stream of bytes that is read from the front. Error messages call it `what`."""
 
     def __init__(self, data: bytes, what: str) -> None:
         self.data, self.place, self.what = data, 0, what
@@ -54,43 +64,45 @@ class Lines:
         return self.place == len(self.data)
 
     def line(self) -> bytes:
-        """Returns the next line, without its line feed."""
+        """Returns the next line, without its line feed. Raises Fault if there is none."""
         end = self.data.find(b"\n", self.place)
         if end < 0:
-            raise Fault(f"{self.what} ends too early")
+            raise Fault.of("ends_early", what=self.what)
         line = self.data[self.place:end]
         self.place = end + 1
         return line
 
     def skip(self, count: int) -> None:
-        """Skips a number of lines."""
+        """Skips a number of lines. Raises Fault if there are fewer."""
         *lines, rest = self.data[self.place:].split(b"\n", count)
         if len(lines) < count:
-            raise Fault(f"{self.what} ends too early")
+            raise Fault.of("ends_early", what=self.what)
         self.place = len(self.data) - len(rest)
 
     def numbers(self, least: int, most: int) -> list[int]:
-        """Returns a line with a given count of numbers."""
+        """Returns the numbers in the next line, of which there are at least `least` and at most
+        `most`. Raises Fault otherwise."""
         words = self.line().split(b" ")
         if not least <= len(words) <= most or not all(word.isdigit() for word in words):
-            raise Fault(f"{self.what} has a bad line of numbers")
+            raise Fault.of("bad_numbers", what=self.what)
         return [decimal(word) for word in words]
 
     def number(self) -> int:
-        """Returns a line of one number."""
+        """Returns the number in the next line. Raises Fault if it has another form."""
         return self.numbers(1, 1)[0]
 
     def rows(self, count: int, width: int) -> list[tuple[int, ...]]:
-        """Returns a number of lines, each with a given count of numbers.
+        """Returns the numbers in the next `count` lines, `width` in each. Raises Fault if a line
+        has another form.
 
-        Many are read at once, but not all, because no other thread of Python runs meanwhile."""
+        They are read in blocks, because no other thread of Python runs while a block is read."""
         found: list[tuple[int, ...]] = []
         while len(found) < count:
             found += self.block(min(count - len(found), BLOCK), width)
         return found
 
     def block(self, count: int, width: int) -> list[tuple[int, ...]]:
-        """Returns a number of such lines, which are read at once."""
+        """Returns the numbers in the next `count` lines, which are read at once."""
         end = self.place - 1
         for _ in range(count):
             end = self.data.find(b"\n", end + 1)
@@ -100,7 +112,7 @@ class Lines:
         words = b" ".join(lines).split(b" ")
         are_rows = len(lines) == count and all(line.count(b" ") == width - 1 for line in lines)
         if are_rows and all(map(bytes.isdigit, words)):
-            # A number may have more digits than any that a file has.
+            # A number may have more digits than Python converts.
             with contextlib.suppress(ValueError):
                 found = list(zip(*[iter(list(map(int, words)))] * width))
                 self.place = end + 1
@@ -108,16 +120,17 @@ class Lines:
         return [tuple(self.numbers(width, width)) for _ in range(count)]
 
     def skip_differences(self, count: int) -> None:
-        """Skips a number of the numbers that `differences` reads."""
+        """Skips a number of binary numbers. Raises Fault if there are fewer."""
         while count:
             groups = self.data[self.place:self.place + count]
             if not groups:
-                raise Fault(f"{self.what} ends too early")
+                raise Fault.of("ends_early", what=self.what)
             self.place += len(groups)
             count -= len(groups.translate(None, GOES_ON))
 
     def differences(self, count: int) -> list[int]:
-        """Returns a number of numbers in groups of seven bits, the lowest first."""
+        """Returns the next binary numbers, which consist of groups of seven bits, lowest first.
+        Raises Fault if one is malformed."""
         found, number, shift = [], 0, 0
         for size, group in enumerate(self.data[self.place:] if count else b"", 1):
             number |= (group & 127) << shift
@@ -129,30 +142,31 @@ class Lines:
                 self.place += size
                 return found
             if shift == 35:
-                raise Fault(f"bad difference in {self.what}")
+                raise Fault.of("bad_difference", what=self.what)
         if count:
-            raise Fault(f"{self.what} ends too early")
+            raise Fault.of("ends_early", what=self.what)
         return found
 
 
 class Header:
-    """The first line: the form, and how many there are of each kind."""
+    """The first line of a file: the format, and the number of signals of each kind. Raises Fault if
+    it is malformed."""
 
     def __init__(self, lines: Lines) -> None:
         form, *words = lines.line().split(b" ")
-        if form not in (b"aag", b"aig") or not 5 <= len(words) <= 9 or not all(word.isdigit()
-                                                                               for word in words):
-            raise Fault(f"bad header line in {lines.what}")
+        are_numbers = 5 <= len(words) <= 9 and all(word.isdigit() for word in words)
+        if form not in (b"aag", b"aig") or not are_numbers:
+            raise Fault.of("bad_header", what=lines.what)
         self.is_text = form == b"aag"
-        # Before version 1.9 a file had no bad state properties, and its outputs were taken for
-        # them.
+        # Before AIGER 1.9 there were no bad state properties: the outputs of a file were its bad
+        # states.
         self.is_old = len(words) == 5
         self.counts = [*map(decimal, words), *[0] * 4][:9]
         self.inputs, self.latches, self.outputs, self.gates = self.counts[1:5]
         self.bads, self.constraints, self.justice, self.fairness = self.counts[5:9]
 
     def count(self, circuit: Circuit, greatest: int) -> None:
-        """Sets the counts to those of a circuit with this greatest variable."""
+        """Sets the counts to those of a circuit whose greatest variable is `greatest`."""
         of: list[Sequence[object]] = [circuit.inputs,
                                       circuit.latches, circuit.outputs, circuit.gates,
                                       circuit.bads, circuit.constraints, circuit.justice]
@@ -160,7 +174,7 @@ class Header:
 
 
 class Symbols:
-    """The header of a file and its names, whose lists and gates are passed over."""
+    """The header and the names of a file. Its lists and gates are skipped."""
 
     def __init__(self, lines: Lines) -> None:
         header = self.header = Header(lines)
@@ -175,13 +189,15 @@ class Symbols:
 
 
 class Circuit:
-    """A circuit as its file has it: lists of literals, gates in order, and names."""
+    """A circuit as its file has it: lists of literals, gates in topological order, and names.
+
+    Raises Fault if the file is malformed, or has at least `limit` nodes."""
 
     def __init__(self, lines: Lines, limit: int = LIMIT) -> None:
         self.what = lines.what
         header = self.header = Header(lines)
         if max(header.counts) >= limit:
-            raise Fault(f"{lines.what} is too large")
+            raise Fault.of("too_large", what=lines.what)
         first_latch = 2 * (header.inputs + 1)
         first_gate = first_latch + 2 * header.latches
         if header.is_text:
@@ -206,19 +222,19 @@ class Circuit:
         self.put_in_order()
 
     def check(self) -> None:
-        """Raises a fault if a literal is defined twice, or is used and not defined."""
+        """Raises Fault if a literal is defined twice, or used but not defined."""
         defined = [*self.inputs, *self.latches, *(gate for gate, _, _ in self.gates)]
         known = {0, *defined}
         if len(known) <= len(defined) or any(literal & 1 for literal in defined):
-            raise Fault(f"bad literal of an input, latch or gate in {self.what}")
+            raise Fault.of("bad_definition", what=self.what)
         used = [*self.nexts, *self.outputs, *self.bads,
                 *self.constraints, *itertools.chain.from_iterable(row[1:] for row in self.gates)]
         unknown = next((literal for literal in used if literal & ~1 not in known), None)
         if unknown is not None:
-            raise Fault(f"literal {unknown} is not defined in {self.what}")
+            raise Fault.of("not_defined", literal=unknown, what=self.what)
 
     def put_in_order(self) -> None:
-        """Puts each gate behind its operands, unless it is there already."""
+        """Sorts the gates topologically, if they aren't. Raises Fault if they form a cycle."""
         leaves = [0, *self.inputs, *self.latches]
         nodes = itertools.chain(leaves, (gate for gate, _, _ in self.gates))
         places = {literal: i for i, literal in enumerate(nodes)}
@@ -234,14 +250,15 @@ class Circuit:
         try:
             self.gates = [gates[literal] for literal in TopologicalSorter(below).static_order()]
         except CycleError as why:
-            raise Fault(f"gate {max(why.args[1])} stands on itself in {self.what}") from None
+            gate = max(why.args[1])
+            raise Fault.of("cyclic_gate", literal=gate, what=self.what) from None
 
-    def opened(self) -> list[int]:
-        """Returns the places of the latches that are uninitialised."""
+    def uninitialised(self) -> list[int]:
+        """Returns the positions of the uninitialised latches."""
         return [i for i, reset in enumerate(self.resets) if reset > 1]
 
     def with_lists(self, **lists: Any) -> Circuit:
-        """Returns a copy of the circuit with other lists, by their names."""
+        """Returns a copy of the circuit in which the lists of these names are replaced."""
         made = copy.copy(self)
         for name, own in lists.items():
             setattr(made, name, own)
@@ -255,7 +272,7 @@ class Circuit:
                 yield letter, position, literal
 
     def text(self) -> bytes:
-        """Returns its text form, with its names, as bytes."""
+        """Returns the circuit in text format, with its names."""
         counts = self.header.counts[: 5 if self.header.is_old else 9]
         latches = zip(self.latches, self.nexts, self.resets)
         sets = [*map(len, self.justice), *itertools.chain(*self.justice), *self.fairness]
@@ -264,27 +281,18 @@ class Circuit:
             + symbols(self.names.items())
 
     def name(self, letter: str, position: int) -> bytes:
-        """Returns the name of a signal, as bytes."""
+        """Returns the name of a signal; if it has none, its letter and position."""
         return self.names.get((letter, position)) or f"{letter}{position}".encode()
 
     def read_by(self, literal: int) -> set[int]:
-        """Returns the places of the latches that a literal reads in the same step."""
+        """Returns the positions of the latches on which a literal depends in the same step."""
         seen = cone([literal], {gate: operands for gate, *operands in self.gates})
         return {i for i, latch in enumerate(self.latches) if latch in seen}
 
 
-def cone(literals: Iterable[int], below: Mapping[int, Sequence[int]]) -> set[int]:
-    """Returns the nodes that literals read, by their literals, where these stand below nodes."""
-    left, seen = [literal & ~1 for literal in literals], set[int]()
-    while left:
-        if (it := left.pop()) not in seen:
-            seen.add(it)
-            left += [literal & ~1 for literal in below.get(it, ())]
-    return seen
-
-
 def text_form(counts: Iterable[int], lines: Iterable[object]) -> bytes:
-    """Returns the text form of a file with these counts and lines; a row is one line."""
+    """Returns a file in text format with these counts and lines. A line is a number or a tuple of
+    numbers."""
     spelled = (" ".join(map(str, it)) if isinstance(it, tuple) else str(it) for it in lines)
     return "".join(f"{line}\n" for line in ["aag " + " ".join(map(str, counts)), *spelled]).encode()
 
@@ -295,8 +303,8 @@ def symbols(names: Iterable[tuple[tuple[str, int], bytes]]) -> bytes:
 
 
 def differences(numbers: Iterable[int]) -> bytes:
-    """Returns numbers as binary files spell them: groups of seven bits, the lowest first, each but
-    the last with the eighth bit set."""
+    """Returns binary numbers: groups of seven bits, lowest first, with the eighth bit set in all
+    but the last."""
     groups = bytearray()
     for number in numbers:
         while number > 127:
@@ -307,93 +315,35 @@ def differences(numbers: Iterable[int]) -> bytes:
 
 
 def binary_gates(lines: Lines, count: int, first: int) -> list[Gate]:
-    """Returns a number of gates of the binary form from this literal on, by their differences."""
+    """Returns a number of gates from a binary file, the first of which has the literal `first`.
+    Raises Fault if a gate is malformed."""
     numbers = lines.differences(2 * count)
     gates = [(gate, gate - one, gate - one - two)
              for gate, one, two in zip(itertools.count(first, 2), numbers[::2], numbers[1::2])]
     if any(right < 0 for *_, right in gates):
-        raise Fault(f"bad difference in {lines.what}")
+        raise Fault.of("bad_difference", what=lines.what)
     return gates
 
 
 def names(lines: Lines) -> Names:
-    """Returns the names behind the gates, by letter and position, up to the comment: a c without a
-    digit behind it."""
+    """Returns the names behind the gates, by letter and position. Raises Fault if a line is
+    malformed.
+
+    They end with the comment: a c without a digit behind it."""
     found = {}
     while not lines.is_read() and not COMMENT.match(lines.data, lines.place):
         symbol = re.fullmatch(rb"([ilobcjf])([0-9]+) (.*)", lines.line(), re.DOTALL)
         if symbol is None:
-            raise Fault(f"bad line of a name in {lines.what}")
+            raise Fault.of("bad_name", what=lines.what)
         found[symbol[1].decode(), decimal(symbol[2])] = symbol[3]
     return found
 
 
-class Gates:
-    """Gates over literals, in the order in which they were made, each once."""
-
-    def __init__(self, first: int) -> None:
-        self.next = first
-        self.rows: list[tuple[int, int, int]] = []
-        self.made: dict[tuple[int, int], int] = {}
-
-    def both(self, left: int, right: int) -> int:
-        """Returns the literal of an and."""
-        if left < right:
-            left, right = right, left
-        if right == 0 or left == right ^ 1:
-            return 0
-        if right == 1 or left == right:
-            return left
-        made = self.made.get((left, right))
-        return self.add(left, right) if made is None else made
-
-    def add(self, left: int, right: int) -> int:
-        """Returns the literal of a new and of two literals, the larger first."""
-        made = self.made[left, right] = self.next
-        self.rows.append((made, left, right))
-        self.next += 2
-        return made
-
-    def take(self, left: int, right: int, literal: int) -> None:
-        """Replaces an and by another literal from now on."""
-        self.made[max(left, right), min(left, right)] = literal
-
-    def any(self, literals: Iterable[int]) -> int:
-        """Returns the literal of the or of several literals, as a tree."""
-        return self.all([literal ^ 1 for literal in literals]) ^ 1
-
-    def all(self, literals: Iterable[int]) -> int:
-        """Returns the literal of the and of several literals, as a tree."""
-        literals = list(literals) or [1]
-        while len(literals) > 1:
-            pairs = [self.both(left, right) for left, right in zip(literals[::2], literals[1::2])]
-            literals = pairs + literals[2 * len(pairs):]
-        return literals[0]
-
-    def choice(self, condition: int, left: int, right: int) -> int:
-        """Returns the literal of one of two, by a condition."""
-        return self.both(self.both(condition, left) ^ 1, self.both(condition ^ 1, right) ^ 1) ^ 1
-
-
 def binary(inputs: int, nexts: Sequence[int], outputs: Sequence[int], gates: Gates) -> bytes:
-    """Returns the binary form of a circuit with a number of inputs, whose latches start with 0, by
-    literals."""
+    """Returns a circuit in binary format. Its latches have the next values `nexts`, and are 0
+    initially."""
     count = len(gates.rows)
     header = f"aig {inputs + len(nexts) + count} {inputs} {len(nexts)} {len(outputs)} {count}"
     lines = "".join(f"{line}\n" for line in [header, *nexts, *outputs])
     return lines.encode() + differences(number for gate, left, right in gates.rows
                                         for number in (gate - left, left - right))
-
-
-def literals_of(circuit: Circuit, gates: Gates, leaves: Mapping[int, int]) -> Callable[[int], int]:
-    """Returns a function from literals of a circuit to the literals that stand for them.
-
-    `leaves` has those that stand for the circuit's leaves."""
-    known = {0: 0, **leaves}
-
-    def literal(of: int) -> int:
-        return known[of & ~1] ^ (of & 1)
-
-    for gate, left, right in circuit.gates:
-        known[gate] = gates.both(literal(left), literal(right))
-    return literal

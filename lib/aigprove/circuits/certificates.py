@@ -1,24 +1,26 @@
-"""Certificates in the form of the hardware model checking competition: a witness circuit, whose
-first inputs and latches are the file's, in order, with their resets and next values, and whose
-property is inductive and implies the file's. aigcheck checks what this module makes."""
+"""Writes certificates in the format of the hardware model checking competition: witness circuits.
+
+Their first inputs and latches are those of the file, in order, with the same initial and next
+values. Their property is inductive, and implies that of the file. aigcheck checks them."""
 from collections.abc import Callable, Iterable, Iterator, Mapping
 
-from aigprove.circuits.aiger import Circuit, Gates, literals_of, symbols, text_form
+from aigprove.circuits.aiger import Circuit, symbols, text_form
+from aigprove.circuits.gates import Gates, literals_of
 
-# How a name begins that says for which literal of a file a leaf stands.
+# The beginning of a name that says for which literal of a file an input or latch stands.
 STANDS = b"= "
 
 
 class Frame:
-    """An earlier state, in latches of the certificate's own: whether it is kept, its latches and
-    its inputs."""
+    """An earlier state in a witness circuit: a latch that says whether it is valid, and copies of
+    the latches and inputs."""
 
     def __init__(self, circuit: Circuit, first: int) -> None:
         self.kept, self.state = first, range(first + 2, first + 2 + 2 * len(circuit.latches), 2)
         self.inputs = range(self.state.stop, self.state.stop + 2 * len(circuit.inputs), 2)
 
     def leaves(self, circuit: Circuit) -> dict[int, int]:
-        """Returns the literals that stand for the circuit's inputs and latches."""
+        """Returns the literals of the copies, by those of the circuit's inputs and latches."""
         return dict([*zip(circuit.inputs, self.inputs), *zip(circuit.latches, self.state)])
 
     def literals(self) -> list[int]:
@@ -27,7 +29,7 @@ class Frame:
 
 
 class WitnessCircuit:
-    """The gates over a circuit's leaves, and a number of frames behind them."""
+    """The gates of a circuit, followed by those of a number of frames."""
 
     def __init__(self, circuit: Circuit, frames: int = 0) -> None:
         self.circuit, inputs, latches = circuit, len(circuit.inputs), len(circuit.latches)
@@ -41,30 +43,32 @@ class WitnessCircuit:
         self.bads = list(map(self.literal, circuit.bads))
 
     def literals(self, leaves: Mapping[int, int]) -> Callable[[int], int]:
-        """Returns the literals of the file's nodes over some leaves, as a function."""
+        """Returns a function from literals of the file to those over these inputs and latches."""
         return literals_of(self.circuit, self.gates, leaves)
 
     def equal(self, left: int, right: int) -> int:
-        """Returns the literal that is true exactly when both are equal."""
+        """Returns the literal that is true if and only if two literals are equal."""
         return self.gates.choice(left, right, right ^ 1)
 
     def implies(self, left: int, right: int) -> int:
-        """Returns the literal that is false where the first is true without the other."""
+        """Returns the literal of an implication."""
         return self.gates.both(left, right ^ 1) ^ 1
 
     def starts(self, state: Iterable[int]) -> int:
-        """Returns the literal that is true where the file's machine can start in a state."""
+        """Returns the literal that is true in the initial states. `state` has the literals of the
+        latches."""
         return self.gates.all(literal ^ (reset == 0)
                               for literal, reset in zip(state, self.circuit.resets) if reset < 2)
 
     def exclude(self, given: Circuit) -> None:
-        """Makes those states bad that are bad in a circuit with the same latches."""
+        """Makes the bad states of another circuit bad, which has the same inputs and latches."""
         leaves = dict([*zip(given.inputs, self.inputs), *zip(given.latches, self.state)])
         literal = literals_of(given, self.gates, leaves)
         self.bads += [*map(literal, given.bads), *(literal(it) ^ 1 for it in given.constraints)]
 
     def remember(self) -> None:
-        """Makes those states bad whose frames aren't the last good states of a run."""
+        """Makes the states bad whose frames aren't the last states of a trace without bad
+        states."""
         before, state = 1, self.state
         for frame in self.frames:
             literal = self.literals(frame.leaves(self.circuit))
@@ -78,8 +82,8 @@ class WitnessCircuit:
             before, state = frame.kept, frame.state
 
     def rows(self) -> Iterator[tuple[int, int, int]]:
-        """Yields the lines of the latches: those of the file, and each frame, which gets what the
-        one before has."""
+        """Yields the lines of the latches: those of the file, and those of each frame, which get
+        the values of the frame before."""
         for latch, next, reset in zip(self.state, self.circuit.nexts, self.circuit.resets):
             yield latch, self.literal(next), reset if reset < 2 else latch
         before = [1, *self.state, *self.inputs]
@@ -88,8 +92,8 @@ class WitnessCircuit:
             before = frame.literals()
 
     def text(self) -> bytes:
-        """Returns its text, with the file's names, but for those that would say that its leaves
-        stand for others."""
+        """Returns its text, with the file's names. Names that would map its inputs and latches to
+        others are left out."""
         rows, bad = list(self.rows()), self.gates.any(self.bads)
         constraints, gates = list(map(self.literal, self.circuit.constraints)), self.gates.rows
         counts = [self.gates.next // 2 - 1, len(self.inputs), len(rows), 0, len(gates), 1,
@@ -100,14 +104,15 @@ class WitnessCircuit:
 
 
 def by_invariant(circuit: Circuit, given: Circuit) -> bytes:
-    """Returns the certificate of an inductive machine whose latches are the circuit's."""
+    """Returns the certificate for an inductive circuit `given`, whose latches are those of
+    `circuit`."""
     made = WitnessCircuit(circuit)
     made.exclude(given)
     return made.text()
 
 
 def by_window(circuit: Circuit, k: int) -> bytes:
-    """Returns the certificate of windows of k + 2 steps: it keeps the last k states."""
+    """Returns the certificate for k-induction: it stores the last k states."""
     made = WitnessCircuit(circuit, k)
     made.remember()
     return made.text()

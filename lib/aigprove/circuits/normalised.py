@@ -1,34 +1,36 @@
-"""What ABC is given and what it writes: the machine of a file as every model checker reads it,
-counterexamples (write_cex), and invariants in PLA form.
+"""Translates between a file and ABC: the model that every model checker reads, counterexamples
+(write_cex), and invariants in PLA format.
 
-All latches of that machine are 0 initially, its outputs are 1 in bad states, and it has no
-constraints. A latch that starts with 1 is inverted. An uninitialised latch takes the value of an
+In that model all latches are 0 initially, its outputs are true in bad states, and there are no
+constraints. A latch that is 1 initially is inverted. An uninitialised latch has the value of an
 input at step 0, while the latch `began` is 0. The latch `broken` is 1 once a constraint was
-broken. If the circuit has no latches, it gets one without a use. Inputs and latches are named by
-their places in the file (i0, l0), and the value of an open latch l0 is the input r0, so that
-what an engine says is told by names."""
+violated. A model without latches gets an unused one. The names of inputs and latches are their
+places in the file (i0, l0), and the input for an uninitialised latch l0 is r0."""
 import re
 from collections.abc import Mapping, Sequence
 
-from aigprove.circuits.aiger import Circuit, Fault, Gates, binary, decoded, literals_of, text_form
+from aigprove.circuits.aiger import Circuit, Fault, binary, decoded, text_form
+from aigprove.circuits.gates import Gates, literals_of
 
-# A value of ABC's counterexample: the name of an input or latch, the step and the value.
+# A value in ABC's counterexample: the name of an input or latch, the step and the value. OWN are
+# ABC's own names.
 NAMED = re.compile(r"(.+)@([0-9]{1,9})=([01])", re.DOTALL)
 OWN = re.compile("pi[0-9]{1,9}")
 LENGTH = re.compile("^# COUNTEREXAMPLE LENGTH: ([0-9]{1,9})$", re.MULTILINE)
-# How many steps a counterexample may have.
+# The greatest number of steps of a counterexample.
 LONGEST = 1 << 20
-# Which of several outputs a counterexample is of; and a line of an invariant.
+# The output that a counterexample is about; and a line of an invariant.
 FOUND = re.compile(r"^# CEX for output ([0-9]{1,9})$", re.MULTILINE)
 PLA = re.compile(r"^\.ilb ", re.MULTILINE)
-# Latches that a normalised model has besides the file's, and their values from step 1 on, in a run
-# that meets the constraints.
+# The additional latches of a normalised model, and their values from step 1 on in a run that meets
+# the constraints.
 BEGAN, BROKEN, SPARE = "began", "broken", "spare"
 FIXED = {BEGAN: "1", BROKEN: "0", SPARE: "0"}
 
 
 class Named:
-    """The values that `write_cex -n` of ABC writes, by the step and the name, and the length."""
+    """The values that ABC's command `write_cex -n` writes, by step and name, and the number of
+    steps."""
 
     def __init__(self, text: str) -> None:
         self.values: dict[tuple[int, str], str] = {}
@@ -40,20 +42,18 @@ class Named:
         self.length = int(said[1]) if said else 1 + last
 
     def rows(self, names: Sequence[str]) -> list[str]:
-        """Returns a value for each of these names in each step.
-
-        A name that is missing at some step has the value 0."""
-        # There is a line for each name and step.
+        """Returns a value for each of these names in each step; 0 for a missing one. Raises Fault
+        if there are too many steps."""
+        # A complete counterexample has a line for each name and step.
         if self.length > LONGEST or self.length * len(names) > 2 * len(self.values):
-            raise Fault("its counterexample has too many steps")
+            raise Fault.of("long_counterexample")
         return ["".join(self.values.get((t, name), "0") for name in names)
                 for t in range(self.length)]
 
 
 def parted(found: str) -> list[tuple[int, str]]:
-    """Returns the place of the output and the text of each counterexample.
-
-    If none has a place, the first output has one."""
+    """Returns the output and the text of each counterexample. If there is only one, it may be
+    without an output, and the output is 0."""
     first, *others = FOUND.split(found)
     if not others:
         return [(0, first)] if "@0=" in first else []
@@ -61,31 +61,31 @@ def parted(found: str) -> list[tuple[int, str]]:
 
 
 def of_abc(text: str, circuit: Circuit) -> tuple[str, list[str]] | None:
-    """Returns the initial state and the inputs of each step in a counterexample of ABC's.
+    """Returns the initial state and the inputs of each step in a counterexample of ABC, in either
+    of its formats; None if it has none.
 
-    It may have either of its forms; None if it has none. The values behind the file's own inputs
-    are those of uninitialised latches, as ABC's `undc` makes them."""
-    rows = named_rows(text, circuit) if "@0=" in text else plain_rows(text)
+    Values behind the file's inputs are those of uninitialised latches, as ABC's `undc` creates
+    them."""
+    if "@0=" in text:
+        rows = named_rows(text, circuit)
+    else:
+        # That is the format of `write_cex -a`, whose first line is the state.
+        lines = text.replace("# DONE", "").split("\n")[1:]
+        rows = [line for line in lines if re.fullmatch("[01]+", line)]
     count = len(circuit.inputs)
     if not rows or any(len(row) < count for row in rows):
         return None
     start = ["1" if reset == 1 else "0" for reset in circuit.resets]
-    for i, given in zip(circuit.opened(), rows[0][count:]):
+    for i, given in zip(circuit.uninitialised(), rows[0][count:]):
         start[i] = given
     return "".join(start), [row[:count] for row in rows]
 
 
-def plain_rows(text: str) -> list[str]:
-    """Returns the inputs of each step in what `write_cex -a` writes, behind a line of the state."""
-    lines = text.replace("# DONE", "").split("\n")[1:]
-    return [line for line in lines if re.fullmatch("[01]+", line)]
-
-
 def named_rows(text: str, circuit: Circuit) -> list[str]:
-    """Returns the inputs of each step in what `write_cex -n` writes.
+    """Returns the inputs of each step in a counterexample of `write_cex -n`.
 
-    They have their names or ABC's own (pi0, pi1 ..). At step 0, values that ABC
-    added stand behind the others."""
+    Inputs have their own names or those of ABC (pi0, pi1). At step 0, inputs that ABC added follow
+    the others."""
     named = Named(text)
     numbered = {int(name[2:]): name for t, name in named.values if t == 0 and OWN.fullmatch(name)}
     names = [circuit.name("i", i).decode("utf-8", "replace") for i in range(len(circuit.inputs))]
@@ -96,9 +96,10 @@ def named_rows(text: str, circuit: Circuit) -> list[str]:
 
 
 def excluded_by(pla: str, places: Mapping[str, int]) -> list[list[int]] | None:
-    """Returns the cubes of an invariant in PLA form, as literals, by those of the latches, where
-    the further latches have their fixed values. None if it has no such form, or a name that is
-    none of these."""
+    """Returns the cubes of an invariant in PLA format, as lists of literals.
+
+    `places` has the literal of each latch's name. Additional latches have their fixed values.
+    Returns None if the format is another one, or a name isn't known."""
     names, excluded = None, []
     for words in filter(None, map(str.split, pla.splitlines())):
         if words[0] == ".ilb":
@@ -116,17 +117,17 @@ def excluded_by(pla: str, places: Mapping[str, int]) -> list[list[int]] | None:
 
 
 class NormalisedModel:
-    """The plain machine of a circuit, and what is told of it told of the circuit.
+    """The normalised model of a circuit.
 
-    It has one output for all bad state properties, or one for each."""
+    It has one output for all bad state properties or, if `is_apart`, one for each."""
 
     def __init__(self, circuit: Circuit, is_apart: bool = False) -> None:
         self.circuit = circuit
-        self.opened = circuit.opened()
+        self.uninitialised = circuit.uninitialised()
         count = len(circuit.inputs)
-        self.inputs = [f"i{i}" for i in range(count)] + [f"r{i}" for i in self.opened]
+        self.inputs = [f"i{i}" for i in range(count)] + [f"r{i}" for i in self.uninitialised]
         self.latches = [f"l{i}" for i in range(len(circuit.latches))]
-        self.latches += [BEGAN] * bool(self.opened) + [BROKEN] * bool(circuit.constraints)
+        self.latches += [BEGAN] * bool(self.uninitialised) + [BROKEN] * bool(circuit.constraints)
         self.latches = self.latches or [SPARE]
         first = 2 * (len(self.inputs) + 1)
         self.places = {name: first + 2 * i for i, name in enumerate(self.latches)}
@@ -139,14 +140,14 @@ class NormalisedModel:
                      for bad in (bads if is_apart else [self.gates.any(bads)])]
         self.nexts = [literal(next) ^ (reset == 1)
                       for next, reset in zip(circuit.nexts, circuit.resets)]
-        self.nexts += [1] * bool(self.opened)
+        self.nexts += [1] * bool(self.uninitialised)
         self.nexts += [self.gates.both(broken ^ 1, allowed) ^ 1] * bool(circuit.constraints)
         self.nexts = self.nexts or [0]
 
     def leaves(self) -> dict[int, int]:
-        """Returns the literals that stand for the circuit's inputs and latches."""
+        """Returns the literals of the circuit's inputs and latches in the model."""
         leaves = {literal: 2 * (i + 1) for i, literal in enumerate(self.circuit.inputs)}
-        free = {i: 2 * (len(self.circuit.inputs) + 1 + n) for n, i in enumerate(self.opened)}
+        free = {i: 2 * (len(self.circuit.inputs) + 1 + n) for n, i in enumerate(self.uninitialised)}
         for i, (literal, reset) in enumerate(zip(self.circuit.latches, self.circuit.resets)):
             place = self.places[f"l{i}"]
             leaves[literal] = place ^ (reset == 1)
@@ -155,14 +156,14 @@ class NormalisedModel:
         return leaves
 
     def binary(self) -> bytes:
-        """Returns its binary form."""
+        """Returns the model in binary format."""
         lists = [("i", self.inputs), ("l", self.latches)]
         names = [f"{letter}{i} {name}\n" for letter, own in lists for i, name in enumerate(own)]
         return binary(len(self.inputs), self.nexts, self.bads, self.gates) + "".join(names).encode()
 
     def run(self, text: str) -> tuple[str, list[str]]:
-        """Returns the first state and the inputs of each step in a counterexample of the plain
-        machine, as `write_cex -n` of ABC writes it."""
+        """Returns the initial state and the inputs of each step of the circuit, given a
+        counterexample of the model. Raises Fault if it is too long."""
         named = Named(text)
         resets = enumerate(self.circuit.resets)
         start = "".join(str(reset) if reset < 2 else named.values.get((0, f"r{i}"), "0")
@@ -170,18 +171,17 @@ class NormalisedModel:
         return start, named.rows(self.inputs[: len(self.circuit.inputs)])
 
     def of_abc(self) -> list[str]:
-        """Returns the names of the latches as ABC has them of the circuit's own file: those that
-        the file gives, or places."""
+        """Returns the names that ABC gives to the latches of the circuit's own file."""
         width = len(str(max(len(self.circuit.latches) - 1, 0)))
         named = (self.circuit.names.get(("l", i)) for i in range(len(self.circuit.latches)))
         return [decoded(name) if name else f"lo{i:0{width}}" for i, name in enumerate(named)]
 
     def certificate(self, pla: str, names: Sequence[str] | None = None) -> bytes | None:
-        """Returns the text of a certificate: inputs and latches as the circuit has them, and one
-        bad state property, the states that an invariant of the plain machine excludes, or one whose
-        latches have these names. None if that isn't one of the machine.
+        """Returns the certificate of an invariant of the model, or None if it isn't one.
 
-        Where a latch is open initially, the first states aren't among them."""
+        It has the circuit's inputs and latches, and one bad state property: the states that the
+        invariant excludes. If latches are uninitialised, initial states aren't excluded. `names`
+        are the latches' names in the invariant, if they aren't the model's."""
         inputs, resets = len(self.circuit.inputs), self.circuit.resets
         latches = range(2 * (inputs + 1), 2 * (inputs + len(resets) + 1), 2)
         gates = Gates(latches.stop)
@@ -190,7 +190,7 @@ class NormalisedModel:
         if excluded is None:
             return None
         bad = gates.any(map(gates.all, excluded))
-        if self.opened:
+        if self.uninitialised:
             bad = gates.both(bad, gates.all(
                 latch ^ (reset == 0) for latch, reset in zip(latches, resets) if reset < 2) ^ 1)
         states = [(latch, latch, reset if reset < 2 else latch)

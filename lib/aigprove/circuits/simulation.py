@@ -1,20 +1,22 @@
-"""Simulates runs of a circuit in three values, and many trials of one run at once.
+"""Simulates traces of a circuit in three-valued logic, and many trials of one trace at once.
 
-aigcheck says whether a run shows what it claims."""
+aigcheck checks the results that are printed."""
 from collections.abc import Iterable, Iterator, Mapping, Sequence
 
 from aigprove.circuits.aiger import Circuit
 from aigprove.circuits.witness import Witness
 
-# By the places of values the trials that are without them.
+# The trials in which the value at a place is left out, as bits.
 LeftOut = Mapping[tuple[int, int], int]
-# How many gates in how many steps are simulated here, where no program of ours does that.
+# The greatest number of gates, in all steps together, that are simulated in Python.
 SIMULATED = 1 << 21
 
 
 class Values:
-    """What is known in a step of each literal: a trial is a bit of `every`, and a literal has those
-    in which it is known to be true."""
+    """The values of all literals in one step, in several trials at once.
+
+    Each trial is a bit of `every`. For each literal, and for its inverse, there is an integer: its
+    bits are the trials in which the literal is known to be true."""
 
     def __init__(self, circuit: Circuit, every: int = 1) -> None:
         rows = [*circuit.latches, *circuit.inputs, *(gate for gate, _, _ in circuit.gates)]
@@ -22,7 +24,7 @@ class Values:
         self.known = [0, every, *[0] * (2 * len(rows))]
 
     def place(self, literal: int) -> int:
-        """Returns the place of a literal among the values that are known."""
+        """Returns the index of a literal in `known`."""
         return self.places[literal & ~1] ^ literal & 1
 
     def true(self, literal: int) -> int:
@@ -30,13 +32,16 @@ class Values:
         return self.known[self.place(literal)]
 
     def __getitem__(self, literal: int) -> str:
-        """Returns the value of a literal, if there is one trial."""
+        """Returns "0", "1" or "x", the value of a literal, if there is one trial."""
         place = self.place(literal)
         return "1" if self.known[place] else "0" if self.known[place ^ 1] else "x"
 
 
 def sides(t: int, row: Sequence[str], left_out: LeftOut | None, every: int) -> Iterator[int]:
-    """Yields what is known of the values of a row and of their inverses, one after the other."""
+    """Yields for each value of a row the trials in which it is known to be 1, and those in which it
+    is known to be 0.
+
+    `t` is 0 for latches, and the step plus 1 for inputs."""
     for i, value in enumerate(row):
         own = every & ~left_out.get((t, i), 0) if left_out else every
         yield own if value == "1" else 0
@@ -45,9 +50,11 @@ def sides(t: int, row: Sequence[str], left_out: LeftOut | None, every: int) -> I
 
 def run(circuit: Circuit, start: Sequence[str], steps: Iterable[Sequence[str]],
         left_out: LeftOut | None = None, every: int = 1) -> Iterator[Values]:
-    """Yields the values in each step, until the next is asked for.
+    """Yields the values in each step. The object is reused for the next step.
 
-    Some trials are without the value at a place: 0 and a latch, or t + 1 and an input of step t."""
+    `start` has the initial values of latches, and `steps` those of inputs. In some trials a value
+    is `left_out`, by its place: 0 and the position of a latch, or t + 1 and that of an input in
+    step t."""
     values = Values(circuit, every)
     known, first = values.known, 2 + 2 * len(circuit.latches)
     gates = [tuple(map(values.place, row)) for row in circuit.gates]
@@ -65,7 +72,8 @@ def run(circuit: Circuit, start: Sequence[str], steps: Iterable[Sequence[str]],
 
 def trials(circuit: Circuit, trace: Witness,
            bads: Iterable[int], left_out: LeftOut, every: int) -> int:
-    """Returns the trials of a run that meet every constraint and end where these bad states are."""
+    """Returns the trials in which a trace meets all constraints, and all these bad states are
+    reached at its end."""
     shown = every
     for values in run(circuit, trace.start, trace.steps, left_out, every):
         for literal in circuit.constraints:
@@ -76,7 +84,7 @@ def trials(circuit: Circuit, trace: Witness,
 
 
 def reached(circuit: Circuit, start: str, steps: Sequence[str]) -> Witness | None:
-    """Returns the witness of the first bad state that a run reaches; None if it reaches none."""
+    """Returns the witness of the first bad state that a trace reaches, or None."""
     for t, values in enumerate(run(circuit, start, steps)):
         for position, literal in enumerate(circuit.bads):
             if values[literal] == "1":

@@ -1,1 +1,2 @@
-"""Designs in Verilog and yosys's other inputs, which yosys translates into AIGER files."""
+"""Reads designs in Verilog and in yosys's other input formats, which yosys translates into AIGER
+files."""

@@ -1,10 +1,11 @@
-"""Which files are of designs, what reads them, and the cells of what is asked about them."""
+"""The input formats of designs, the command of yosys that reads each, and the types of cells that
+stand for properties."""
 from typing import NamedTuple
 
 from aigprove.circuits.aiger import Fault
 
-# By the end of a file's name: what reads it, with the words for what is Verilog. The latches of
-# BLIF have one clock.
+# The command of yosys that reads a file, by the end of its name; `words` are the options for
+# Verilog. After BLIF is read, its latches get one clock.
 VERILOG = "read_verilog {words} -formal -sv {include} {file}"
 SCRIPT = "verilog_defaults -push\nverilog_defaults -add {inner}\n" \
     "script {file}\nverilog_defaults -pop"
@@ -19,9 +20,11 @@ STANDARD_INPUT = "-"
 
 
 class Way(NamedTuple):
-    """A way in which yosys reads Verilog: the words for it and those for it in scripts, and what
-    the files end with. Of lines that say whether nets may be implicit the last counts for the whole
-    file."""
+    """A way of calling yosys's Verilog front end.
+
+    `words` are the options of `read_verilog`, `inner` those that a script's own commands get, and
+    `end` is the text appended to each file. The last `default_nettype` line of a file decides
+    whether yosys accepts implicit nets in it."""
 
     words: str
     inner: str
@@ -29,9 +32,10 @@ class Way(NamedTuple):
 
 
 NONE, WIRE = b"\n\n`default_nettype none\n", b"\n\n`default_nettype wire\n"
-# Where texts are shown and not read; where names without a declaration are refused; where they are
-# nets, and what yosys reads is shown; the same of texts whose macros are expanded; and where such
-# names were declared, perhaps some of them later, by yosys.
+# EXPANDING only prints the preprocessed texts. STRICT refuses names without a declaration. LOOKING
+# accepts them as nets, and prints the syntax tree; AGAIN does the same with texts that are
+# preprocessed already. DECLARED reads texts in which every name is declared, and DECLARED_LATER
+# those in which yosys itself declares some of them later.
 EXPANDING = Way("-ppdump", "", b"")
 STRICT = Way("-ppdump -noautowire", "-ppdump -noautowire", NONE)
 LOOKING = Way("-ppdump -dump_ast1", "-dump_ast1", WIRE)
@@ -41,30 +45,30 @@ ASSERT, COVER, LIVE, FAIR = "$assert", "$cover", "$live", "$fair"
 
 
 class TranslationTimeout(Fault):
-    """The time was over before there was a file to ask about."""
+    """The timeout was reached before yosys had translated the design."""
 
 
 def overdue(path: str) -> TranslationTimeout:
-    """Returns the fault of a design that wasn't read in time."""
-    return TranslationTimeout(f"{path}: yosys was still at it when the time was over")
+    """Returns the exception for a design that yosys didn't read in time."""
+    return TranslationTimeout.of("timed_out", path=path)
 
 
 class File(NamedTuple):
-    """A file of a design: its path and its bytes."""
+    """A file of a design: its path and its contents."""
 
     path: str
     data: bytes
 
     @property
     def kind(self) -> str:
-        """The end of its name that says what reads it."""
+        """The file name extension that selects the front end, or "" for an AIGER file."""
         return kind_of(self.path, self.data) or ""
 
 
 def kind_of(path: str, data: bytes) -> str | None:
-    """Returns the end of a file's name that says what reads it, or None of one in AIGER form.
+    """Returns the file name extension that selects a front end, or None for an AIGER file.
 
-    What standard input has is seen by how it begins."""
+    If `path` is standard input, `data` decides: an AIGER header, or Verilog."""
     if path == STANDARD_INPUT:
         return None if data.startswith((b"aag ", b"aig ")) else ".v"
     return next((end for end in FRONTS if path.endswith(end)), None)

@@ -1,8 +1,9 @@
-"""Names of assertions in generated blocks, where yosys knows the name of each net, but not of an
-assertion.
+"""Names the assertions in generate blocks.
 
-So each assertion there reads a net of its own block too, which is 0. What yosys makes of it has the
-path of that net, from which the assertion gets its name."""
+Yosys keeps the hierarchical name of a net in a generate block, but not that of an assertion. So
+each such assertion is rewritten to read a new net of its own block, whose value is 0. The cell that
+yosys generates for the assertion then reads a net with a path, and the assertion gets its name from
+that path."""
 from __future__ import annotations
 
 import bisect
@@ -20,23 +21,25 @@ ASSERTION = re.compile(
     rb"(?<![\w$.`\\'])(?:(?P<label>[A-Za-z_][\w$]*)\s*:\s*)?(?P<kind>assert|assume|cover|restrict)"
     rb"\b(?:\s+property)?\s*(?=\()")
 EVENTUALLY = re.compile(rb"\s*s_eventually\b")
-# What opens and closes a block that is generated, and what a case begins with; a module.
+# The words that begin and end a generate block, a case or a module.
 DEPTH = re.compile(rb"(?<![\w$.`\\])(begin|end|case[xz]?|endcase|module|macromodule|endmodule)\b")
 ATTRIBUTE = re.compile(rb"\*\)\s*$")
-# The net of an assertion: its number and its label; and the path of one in a module.
+# MARK is the name of an assertion's net: a number and the assertion's label. PATH finds the path
+# and the label in such a name.
 MARK = b"aigprove_at_%d_%s"
 PATH = re.compile(r"\\((?:.*\.)?)aigprove_at_[0-9]+_([\w$]*)")
-# What a process gives to the value of an assertion in it.
+# The assignment by which a process sets the value that an assertion checks.
 CHECK = re.compile(r"\$[0-9]+(\$formal\$\S+_CHECK)\[0:0\]\$[0-9]+")
 UNNAMED = "unnamed"
 
 
 class Generated:
-    """The parts of a text that are in blocks which are generated, beside those that are run."""
+    """Finds out whether an offset of a text is in a generate block. Procedural blocks are
+    skipped."""
 
     def __init__(self, words: bytes, blocks: Blocks) -> None:
-        # Where each opening or closing word stands, and whether a block is open, and a case is the
-        # innermost, behind it.
+        # `places` are the offsets behind each word of DEPTH. `states` say for each of them whether
+        # a block is open behind it, and whether the innermost one is a case.
         self.words, self.places, self.states = words, [0], [(False, False)]
         above: list[bytes] = []
         for found in DEPTH.finditer(words):
@@ -50,12 +53,14 @@ class Generated:
             self.states.append((bool(above), above[-1:] not in ([], [b"begin"])))
 
     def at(self, place: int) -> tuple[bool, bool]:
-        """Returns whether a place is in a generated block, and whether right in a case."""
+        """Returns whether an offset is in a generate block, and whether it is directly in a case of
+        one."""
         return self.states[bisect.bisect_right(self.places, place) - 1]
 
 
 def marked(data: bytes) -> bytes:
-    """Returns a text in which assertions in generated blocks read nets of these."""
+    """Returns a Verilog text in which each assertion in a generate block reads a new net of that
+    block."""
     words = Text(data).words
     blocks, count = Blocks(words), 0
     generated, alone = Generated(words, blocks), set[Span]()
@@ -79,7 +84,10 @@ def marked(data: bytes) -> bytes:
 
 
 def reading(found: re.Match[bytes], words: bytes, end: int, mark: bytes) -> Iterator[Edit]:
-    """Yields what is written otherwise in an assertion, so that it reads a net and has no label."""
+    """Yields the edits that remove an assertion's label and make its condition read the net `mark`.
+
+    `found` is the match of ASSERTION in `words`, and `end` the offset behind its closing
+    parenthesis."""
     yield Edit(found.start(), found.start("kind"), b"")
     first = EVENTUALLY.match(words, found.end() + 1)
     start = first.end() if first else found.end() + 1
@@ -88,8 +96,11 @@ def reading(found: re.Match[bytes], words: bytes, end: int, mark: bytes) -> Iter
 
 
 def paths_in(module: Statement) -> Mapping[str, tuple[str, str]]:
-    """Returns the paths and labels of the assertions of a module, by the nets that they read: those
-    of cells that join these with the nets of blocks, and what processes make of them."""
+    """Returns the path and the label of each marked assertion of a module, by the net that the
+    assertion reads.
+
+    These nets are the outputs of cells that combine an assertion's condition with its marking net,
+    and the nets to which processes assign such outputs."""
     found: dict[str, tuple[str, str]] = {}
     for cell in (it for it in module.of("cell") if it.type == "$logic_or"):
         ports = {port[0].name: signal for port, signal in
@@ -106,8 +117,9 @@ def paths_in(module: Statement) -> Mapping[str, tuple[str, str]]:
 
 
 def named(design: Statement) -> None:
-    """Gives the assertions of a design that read nets of generated blocks the paths of these, and
-    their labels; of several with one name each has a number."""
+    """Renames the marked assertions of a design: to the path of their block and their label.
+
+    If several assertions of a module would get the same name, each gets an index."""
     for module in design.of("module"):
         known, cells = paths_in(module), collections.defaultdict[str, list[Statement]](list)
         for cell in (it for it in module.of("cell") if it.type in ASSERTIONS):

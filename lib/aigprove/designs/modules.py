@@ -1,5 +1,7 @@
-"""The modules of a design: each x becomes a wire that nothing drives, before a pass of yosys may
-choose its value, or another for each reader; and what yosys would read in one way of several is
+"""Prepares the modules of a design for translation.
+
+Each `x` is replaced by an undriven wire before a pass of yosys could choose its value, or different
+values for different readers. Designs that yosys would silently read in one of several ways are
 refused."""
 import collections
 import itertools
@@ -10,43 +12,46 @@ from typing import Any, NamedTuple
 from aigprove.circuits.aiger import Fault
 from aigprove.designs.rtlil import Part, Signal, Statement, constant, modules_of, spelled
 
-# What an assertion, an assumption or a write that isn't enabled says, and whether it is enabled.
+# The nets that hold the values of assertions, assumptions and memory writes that aren't enabled,
+# and the end of the names of their enable nets.
 UNREACHED, ENABLE = re.compile(r"\$[0-9]+\$(?:formal|memwr)\$\S+"), "_EN"
 PARALLEL = "\\parallel_case"
-# Cells with assertions.
+# The types of cells that are properties.
 ASSERTIONS = {"$assert", "$assume", "$cover", "$live", "$fair"}
-# Cells that compare with x, or whose x are values of a memory.
+# COMPARING are cells that compare with `x`. MEMORY begins the types of memory cells, whose `x` are
+# initial or default values.
 COMPARING, MEMORY = {"$eqx", "$nex"}, "$mem"
-# Statements of processes that may have values.
+# The statements of a process that assign values.
 VALUED = {"assign", "switch", "update"}
-# What a process does all the time or initially, and not at an edge; and the attribute of initial
-# values.
+# The sync rules of a process that aren't at a clock edge, and the attribute of initial values.
 UNTIMED, INIT = {"always", "init", "global"}, "\\init"
 INTERFACE, TOP, BOX = "\\is_interface", "\\top", "\\blackbox"
-# The attribute of a net that is joined with a signal in an instance.
+# The attribute of a net that yosys connects with the signal of an instance that has the net's name.
 JOINED = "\\hierconn"
-# How yosys names what is in a task or function, or in a block without a name: the scope, its number
-# of the call or block, and the name there.
+# Yosys's names for what is declared in a task, a function or an unnamed block: the scope, the
+# number of the call or block, and the declared name.
 CALL = re.compile(r"(?<=\\)([^\s\\]*?)\$func\$[^\s\\]*?:[0-9]+\$([0-9]+)(?=\.([^\s.[]+))")
 BLOCK = re.compile(r"((?<=\\)[^\s\\]*?\.|(?<!\S))\$unnamed_block\$([0-9]+)(?=\.([^\s.[]+))")
 UNNAMED = "unnamed_block"
-# The path of a net, with spaces between its parts.
+# A net's path, with spaces between its parts, as the attribute `hdlname` has it.
 PATH = re.compile(r'[^\s"\\]+( [^\s"\\]+)+')
 
 
-def opened(design: Statement) -> None:
-    """Frees each x of a design. What isn't enabled has the value 0, and not x; and the first of
-    several items that fit counts, though the design says that only one does."""
+def free_unknowns(design: Statement) -> None:
+    """Replaces each `x` of a design by an undriven wire.
+
+    The value of a disabled assertion or memory write becomes 0 first, and the attribute
+    `parallel_case` is removed, so that the first matching item of a case is chosen."""
     for module in design.of("module"):
         for it in module.all():
             it.attributes.pop(PARALLEL, None)
-            settle(it)
-        let_go(module)
+            clear_disabled(it)
+        drop_unknown_updates(module)
         free(module)
 
 
-def settle(block: Statement) -> None:
-    """Gives what isn't enabled in a case the value 0."""
+def clear_disabled(block: Statement) -> None:
+    """Sets values that are `x` while their enable net is 0 to 0, in the statements of one block."""
     for it, *behind in zip(block.body, *(block.body[i:] + [block] * i for i in (1, 2))):
         if it.kind == "assign" and UNREACHED.match(it.text) and any(map(is_disabled, behind)):
             target, source = it.signals()
@@ -56,7 +61,7 @@ def settle(block: Statement) -> None:
 
 
 def is_disabled(statement: Statement) -> bool:
-    """Returns whether a statement says that something isn't enabled."""
+    """Returns whether a statement sets an enable net to the constant 0."""
     if statement.kind != "assign":
         return False
     target, source = statement.signals()
@@ -64,10 +69,12 @@ def is_disabled(statement: Statement) -> bool:
     return ENABLE in spelled(target) and bool(bits) and not bits.strip("0")
 
 
-def let_go(module: Statement) -> None:
-    """Drops what writes x at each of several edges to a net that nothing else in a module names, as
-    to variables of functions: without a driver it has any value, too, and yosys wants a constant of
-    an asynchronous reset."""
+def drop_unknown_updates(module: Statement) -> None:
+    """Removes assignments of `x` at every edge of a process, if nothing else in the module uses the
+    net.
+
+    Yosys writes these for variables of functions. Without a driver the net has any value, too, and
+    yosys wants an asynchronous reset to have a constant value."""
     for process in module.of("process"):
         edges = [sync for sync in process.of("sync") if sync.text not in UNTIMED]
         written = [{it.text for it in sync.of("update") if is_x(it)} for sync in edges]
@@ -83,15 +90,15 @@ def let_go(module: Statement) -> None:
 
 
 def is_x(update: Statement) -> bool:
-    """Returns whether a statement writes x to a whole net."""
+    """Returns whether a statement assigns `x` to all bits of a net."""
     target, source = update.signals()
     bits = constant(source)
     return len(target) == 1 and target[0].high is None and bool(bits) and not bits.strip("x")
 
 
 def valued(module: Statement) -> Iterator[Statement]:
-    """Yields the statements of a module whose x are values: those of memories, of initial values
-    and what is compared with x are none."""
+    """Yields the statements of a module in which `x` is a value. Memories, initial values and
+    comparisons with `x` are left out."""
     for it in module.body:
         if it.kind == "connect":
             yield it
@@ -101,13 +108,13 @@ def valued(module: Statement) -> Iterator[Statement]:
             yield from (own for own in it.all() if own.kind in VALUED)
 
 
-def is_open(part: Part) -> bool:
-    """Returns whether a part of a signal has bits that are x, and none that is z."""
+def has_unknown(part: Part) -> bool:
+    """Returns whether a part of a signal has an `x` bit and no `z` bit."""
     return "x" in part.bits and "z" not in part.bits
 
 
 def free(module: Statement) -> None:
-    """Gives a module a wire that nothing drives for each run of bits that are x."""
+    """Replaces each run of `x` bits in a module by a new, undriven wire."""
     wires: list[Statement] = []
 
     def freed(part: Part) -> Iterator[Part]:
@@ -121,7 +128,7 @@ def free(module: Statement) -> None:
         if "x" in it.text:
             signals = it.signals()
             made: list[Signal] = [[own for part in signal
-                                   for own in (freed(part) if is_open(part) else [part])]
+                                   for own in (freed(part) if has_unknown(part) else [part])]
                                   for signal in signals]
             if made != signals:
                 it.put(made)
@@ -129,7 +136,10 @@ def free(module: Statement) -> None:
 
 
 class Cell(NamedTuple):
-    """A cell, whose names begin with a sign; a module has no type."""
+    """A cell or a module.
+
+    `type` is None for a module. Names have yosys's prefix: a backslash for names of the design, and
+    `$` for generated ones. `place` is the source location."""
 
     module: str
     type: str | None
@@ -138,12 +148,12 @@ class Cell(NamedTuple):
 
     @property
     def label(self) -> str:
-        """The module's name, and its own if the design gives one."""
+        """The module's name, followed by the cell's name if the design gives it one."""
         return base_of(self.module) + (f".{self.name[1:]}" if self.name.startswith("\\") else "")
 
 
 def cells_of(design: Statement) -> Iterator[Cell]:
-    """Yields all modules of a design, each before its cells."""
+    """Yields every module of a design, followed by its cells."""
     for name, module in modules_of(design).items():
         yield Cell(name, None, name, module.source)
         for cell in module.of("cell"):
@@ -156,7 +166,7 @@ def types_of(design: Statement) -> set[str]:
 
 
 def are_alike(design: Statement) -> bool:
-    """Returns whether several assertions of a module have one place, and no names."""
+    """Returns whether two unnamed assertions of a module have the same source location."""
     places = [(module.name, cell.source) for module in design.of("module")
               for cell in module.of("cell")
               if cell.type in ASSERTIONS and not cell.name.startswith("\\")]
@@ -164,13 +174,15 @@ def are_alike(design: Statement) -> bool:
 
 
 def dots_in(name: str) -> Iterator[int]:
-    """Yields the places of the points in a name."""
+    """Yields the positions of the dots in a name."""
     return (i for i, sign in enumerate(name) if sign == ".")
 
 
 def check_names(modules: Mapping[str, Statement], passed: str = "") -> None:
-    """Refuses a name with points that is a path to something else, too: yosys takes one for the
-    other. Nets with an attribute of this name are passed over."""
+    """Raises Fault if the name of a net with dots is also the path of another signal: yosys would
+    confuse them.
+
+    `modules` are the modules by their names. Nets with the attribute `passed` aren't checked."""
     for name, module in modules.items():
         dotted = [own for it in module.of("wire", "memory")
                   if passed not in it.attributes
@@ -179,22 +191,23 @@ def check_names(modules: Mapping[str, Statement], passed: str = "") -> None:
         for own in dotted:
             for end in dots_in(own):
                 other = modules.get(types.get(own[:end], ""))
-                # What an interface has is declared by paths.
+                # The signals of an interface are declared by their paths.
                 is_path = other and INTERFACE not in other.attributes
                 if is_path and other and f"\\{own[end + 1:]}" in begins_of(other):
-                    raise Fault(f"{base_of(name)} has a net of the name {own[1:]}, and an instance "
-                                f"{own[1:end]} with {own[end + 1:]}: rename one of them")
+                    raise Fault.of("ambiguous_name", module=base_of(name), name=own[1:],
+                                   cell=own[1:end], inner=own[end + 1:])
 
 
 def begins_of(module: Statement) -> set[str]:
-    """Returns the names of what a module has, and what stands before a point in one."""
+    """Returns the names of a module's nets, memories and cells, and each part of such a name up to
+    a dot."""
     names = {it.name for it in module.of("wire", "memory", "cell")}
     return names | {name[:end] for name in names for end in dots_in(name)}
 
 
 def check_constants(modules: Mapping[str, Statement]) -> None:
-    """Refuses nets that are given different constants, as by initial blocks where nothing else
-    writes them: yosys takes one of these."""
+    """Raises Fault if a net gets several constants, for example from several initial blocks: yosys
+    would choose one of them."""
     for name, module in modules.items():
         given, values = list(constants_in(module)), collections.defaultdict(set)
         widths = {it.name: width_of(it) for it in module.of("wire")} if given else {}
@@ -202,22 +215,23 @@ def check_constants(modules: Mapping[str, Statement]) -> None:
             for i, bit in enumerate(bits_in(target, widths)):
                 values[bit].add(source[i:i + 1] or source)
         for net in dict.fromkeys(net for (net, _), own in values.items() if len(own) > 1):
-            # What only initial blocks write and nothing reads may be the variable of loops.
+            # A net that only initial blocks write, and that nothing reads, may be a loop variable.
             uses = sum(it.words().count(net) for it in module.all())
             if uses > 1 + sum(net in {part.name for part in target} for target, _ in given):
-                raise Fault(f"{base_of(name)}: {net[1:]} has several drivers, or several initial "
-                            "values")
+                raise Fault.of("several_values", module=base_of(name), net=net[1:])
 
 
 def width_of(wire: Statement) -> int:
-    """Returns how many bits a net has."""
+    """Returns the number of bits of a net."""
     words = wire.words()
     return int(words[words.index("width") + 1]) if "width" in words[:-1] else 1
 
 
 def constants_in(module: Statement) -> Iterator[tuple[Signal, str]]:
-    """Yields what a module gives to nets once: pairs of a target and a constant, its lowest bit
-    first, or another text if it is none."""
+    """Yields the assignments of constants to nets that a module makes once.
+
+    Each is a pair of the target and the constant's bits, lowest first. If the source isn't a
+    constant, another text stands for it."""
     for it in module.of("connect"):
         target, source = it.signals()
         if bits := known_bits(source):
@@ -235,13 +249,16 @@ def constants_in(module: Statement) -> Iterator[tuple[Signal, str]]:
 
 
 def known_bits(signal: Signal) -> str:
-    """Returns the bits of a signal that is a constant of 0 and 1; else none."""
+    """Returns the bits of a signal if it is a constant without `x` and `z`, and otherwise ""."""
     bits = constant(signal)
     return bits if not bits.strip("01") else ""
 
 
 def bits_in(target: Signal, widths: Mapping[str, int]) -> Iterator[tuple[str, int]]:
-    """Yields the bits of the nets in a signal, from the lowest on: pairs of a name and a place."""
+    """Yields the bits of the nets in a signal, lowest first, as pairs of a net's name and a bit
+    index.
+
+    `widths` has the width of each net."""
     for part in reversed(target):
         low, high = part.low, part.high
         if low is None or high is None:
@@ -250,25 +267,24 @@ def bits_in(target: Signal, widths: Mapping[str, int]) -> Iterator[tuple[str, in
 
 
 def base_of(name: str) -> str:
-    """Returns the name that a module has in the design: that of one with parameters stands behind
-    the second sign."""
+    """Returns the name that a module has in the design, without parameter values."""
     return name.split("\\")[1]
 
 
 def source_of(name: str) -> str:
-    """Returns the name that a module has in the text: that of one with interfaces has theirs behind
-    it."""
+    """Returns the name that a module has in the Verilog text, without parameter values and
+    interfaces."""
     return base_of(name).partition("$interfaces$")[0]
 
 
 def roots_of(cells: Sequence[Cell]) -> list[str]:
-    """Returns the names of the modules that no other has, in order."""
+    """Returns the names of the modules that no other module instantiates, in order."""
     types = {cell.type for cell in cells}
     return [cell.module[1:] for cell in cells if cell.type is None and cell.module not in types]
 
 
 def reached(cells: Sequence[Cell], root: str) -> set[str]:
-    """Returns the names of a module and of all below it."""
+    """Returns the names of a module and of all modules below it."""
     found, left = set(), [root]
     while left:
         found.add(left.pop())
@@ -278,7 +294,7 @@ def reached(cells: Sequence[Cell], root: str) -> set[str]:
 
 
 def item_of_x(design: Statement) -> str | None:
-    """Returns the place of a case with an item that is x or z, if there is one."""
+    """Returns the source location of a case item with an `x` or `z`, or None if there is none."""
     for switch in (it for it in design.all() if it.kind == "switch"):
         items = [part for case in switch.of("case") for signal in case.signals() for part in signal]
         if any("x" in part.bits or "z" in part.bits for part in items):
@@ -287,8 +303,11 @@ def item_of_x(design: Statement) -> str | None:
 
 
 def renamed(module: Statement) -> None:
-    """Gives names that rest on tasks, functions and blocks alone to what is in these: by yosys's
-    own no register would have a partner in another file."""
+    """Renames what is declared in tasks, functions and unnamed blocks, so that the names depend
+    only on these.
+
+    With yosys's own names, which count calls, a register wouldn't have the same name in another
+    version of the design."""
     for pattern, behind in (CALL, ""), (BLOCK, UNNAMED):
         statements = list(module.all())
         if any(pattern.search(it.text) for it in statements):
@@ -298,9 +317,10 @@ def renamed(module: Statement) -> None:
 
 
 def renaming(words: set[str], pattern: re.Pattern[str], behind: str) -> dict[str, str]:
-    """Returns new names for such words: the scope, what is to stand behind it, and the inner name;
-    of several with one name each has its own number, from 0. Where another word is such a name
-    itself there is none."""
+    """Returns the new name for each of the words that `pattern` finds, by the old one.
+
+    A new name is the scope, `behind`, and the declared name. If several words would get the same
+    name, each gets an index from 0. Returns nothing if a new name is already taken."""
     numbers = collections.defaultdict[tuple[str, str], set[int]](set)
     found = {word: pattern.findall(word) for word in words if "$" in word and pattern.search(word)}
     for scope, number, inner in (it for own in found.values() for it in own):
@@ -316,8 +336,8 @@ def renaming(words: set[str], pattern: re.Pattern[str], behind: str) -> dict[str
 
 
 def paths_of(nets: Mapping[str, Any]) -> dict[str, str]:
-    """Returns the paths of the nets of a flat module that are below the top, by the names that they
-    have once those in tasks are named."""
+    """Returns the path of each net below the top of a flat module, by the name that `renamed` gives
+    the net."""
     module, paths = Statement("module"), {}
     module.body = [Statement("wire", f"\\{name}") for name in nets]
     renamed(module)

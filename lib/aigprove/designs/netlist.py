@@ -1,52 +1,52 @@
-"""Netlists as yosys writes them in JSON: which signals have which names, drivers and clocks."""
+"""The netlist that yosys writes as JSON: names, drivers and clocks of its signals."""
 import collections
 import re
 from collections.abc import Iterator, Mapping
 from typing import Any
 
 from aigprove.circuits.aiger import Fault
+from aigprove.data import message
 from aigprove.designs.internal import COMPUTED
 
-# What a file of yosys's in JSON has; a bit of a net there: a number, or 0, 1, x or z; and a clock,
-# with whether its rising edges count.
+# Json is an object of such a file. Bit is a bit of a net: a number, or "0", "1", "x" or "z". Clock
+# is the name of a clock, and whether its rising edges are active.
 Json = dict[str, Any]
 Bit = int | str
 Clock = tuple[str, bool]
 
 CLOCKS = {"CLK", "RD_CLK", "WR_CLK"}
-# Cells that hold a value.
+# Cells that store a value, so that their outputs don't depend on their inputs in the same step.
 HOLDING = re.compile(r"ff|latch|sr$|_sr_|mem|any", re.IGNORECASE)
-MANY = "--multiclock takes any, and a step is then a moment in which inputs and clocks may change"
-# What is behind the name of what a register holds; and the index of a bit.
+
+# The suffix of the name of a register's stored value, and the index of a bit at the end of a name.
 STORED, INDEX = ".stored", re.compile(r"(\[[0-9]+\])?$")
 PART = re.compile(r"(.+)\$\[([0-9]+):([0-9]+)\]")
 
 
 def identifier(module: Json, name: str) -> str:
-    """Returns a net's name as yosys's own language has it: there none begins with #, with which a
-    comment begins in a script."""
+    """Returns a net's name as RTLIL has it, which never begins with `#`: in a script, that would
+    begin a comment."""
     return name if module["netnames"][name]["hide_name"] else f"\\{name}"
 
 
 def pattern_of(name: str) -> str:
-    """Returns the pattern that yosys finds this name by, and no other."""
+    """Returns a pattern by which yosys selects exactly the object of this name."""
     return re.sub(r"(\W)", r"\\\1", name)
 
 
 def names_of(module: Json) -> dict[Bit, str]:
-    """Returns a name for each bit of a module: of a port, else of a net that the design names, else
-    of another."""
-    names = {}
+    """Returns a name for each bit of a module: preferably that of a port, then that of a net that
+    the design names."""
     ranked = sorted(module["netnames"].items(),
                     key=lambda it: (it[0] in module["ports"], not it[1]["hide_name"]))
-    for name, net in ranked:
-        names.update(dict.fromkeys(net["bits"], name))
-    return names
+    return {bit: name for name, net in ranked for bit in net["bits"]}
 
 
 def spelled(module: Json, bit: Bit) -> str:
-    """Returns how a bit is called in messages: by its name, or by the first name that the design
-    has for something that depends on it, unless the bit's own name has a place of the source."""
+    """Returns how messages name a bit.
+
+    That is its name or, if only the name of a later signal comes from the design, a description by
+    that signal. A name that contains a source location is used as it is."""
     names, left, seen = names_of(module), [bit], {bit}
     readers = collections.defaultdict[Bit, list[Json]](list)
     for cell in module["cells"].values():
@@ -65,7 +65,7 @@ def spelled(module: Json, bit: Bit) -> str:
 
 
 def bits_of(module: Json) -> Iterator[tuple[Bit, str]]:
-    """Yields each bit of the nets that the design names, and its name as a file has it."""
+    """Yields each bit of the nets that the design names, with its name in the AIGER file."""
     for name, net in module["netnames"].items():
         if not net["hide_name"]:
             is_one = len(net["bits"]) == 1
@@ -74,7 +74,7 @@ def bits_of(module: Json) -> Iterator[tuple[Bit, str]]:
 
 
 def aliases(module: Json) -> dict[str, list[str]]:
-    """Returns all names of each bit that has one, by each of them."""
+    """Returns all names of each bit, by each of these names."""
     names = collections.defaultdict(list)
     for bit, name in bits_of(module):
         names[bit].append(name)
@@ -82,7 +82,7 @@ def aliases(module: Json) -> dict[str, list[str]]:
 
 
 def cells_like(module: Json, kind: str) -> list[Json]:
-    """Returns the cells of a type."""
+    """Returns the cells of the type `kind`."""
     return [cell for cell in module["cells"].values() if cell["type"] == kind]
 
 
@@ -92,7 +92,7 @@ def types(module: Json) -> set[str]:
 
 
 def constants(module: Json) -> set[str | None]:
-    """Returns the names of what has any value, which is the same in each step."""
+    """Returns the names of the values that are arbitrary, but the same in each step."""
     names = names_of(module)
     return {names.get(bit)
             for cell in cells_like(module, "$anyconst") for bit in cell["connections"]["Y"]}
@@ -111,7 +111,7 @@ def inputs_of(cell: Json) -> list[Bit]:
 
 
 def needed(module: Json) -> set[Bit]:
-    """Returns the bits on which ports, and cells that drive nothing, depend."""
+    """Returns the bits on which the ports depend, and the cells without outputs."""
     makers = collections.defaultdict[Bit, list[Json]](list)
     left = [bit for port in module["ports"].values() for bit in port["bits"]]
     for cell in module["cells"].values():
@@ -129,9 +129,9 @@ def needed(module: Json) -> set[Bit]:
 
 
 def loop_in(module: Json) -> list[str]:
-    """Returns the names of signals that depend on each other in one step, if there are such.
+    """Returns the names of the signals of a combinational cycle, sorted, or none.
 
-    Each output of a cell is taken to depend on each of its inputs, as it may not."""
+    Every output of a cell is assumed to depend on all its inputs."""
     names, done, path = names_of(module), set[Bit](), dict[Bit, None]()
     makers = {bit: cell for cell in module["cells"].values() if not HOLDING.search(cell["type"])
               for bit in outputs(cell)}
@@ -152,28 +152,31 @@ def loop_in(module: Json) -> list[str]:
 
 
 def check_drivers(top: str, module: Json) -> None:
-    """Refuses nets that are z at times or have several drivers, of which one may be a constant."""
+    """Raises Fault if a net has several drivers, constants included, or may be `z`. `top` is the
+    module's name for messages."""
     driven = set[Bit]()
     valued = [cell for cell in module["cells"].values() if cell["type"] not in ("$eqx", "$nex")]
     open_bits = [spelled(module, bit) for cell in valued for bit in outputs(cell) or [""]
                  if any("z" in bits for bits in cell["connections"].values())]
     for name in open_bits + [name
                              for name, net in module["netnames"].items() if "z" in net["bits"]]:
-        raise Fault(f"{top}: {name} is z at times, and tristate is not taken")
+        raise Fault.of("tristate", top=top, net=name)
     inputs = [bit for port in module["ports"].values() if port["direction"] == "input"
               for bit in port["bits"]]
     read = needed(module)
     for bit in inputs + [bit for cell in valued for bit in outputs(cell)]:
-        # One on which nothing depends may be the variable of loops.
+        # A net on which nothing depends may be a loop variable.
         if isinstance(bit, str) or bit in driven and bit in read:
-            raise Fault(f"{top}: {spelled(module, bit)} has several drivers")
+            raise Fault.of("several_drivers", top=top, net=spelled(module, bit))
         driven.add(bit)
 
 
 def clock_of(top: str, module: Json) -> Clock | None:
-    """Returns the name of the clock, and whether its rising edges count; None without registers.
+    """Returns the name of the module's clock, and whether its rising edges are active; None if it
+    has no registers.
 
-    Several are refused by name."""
+    Raises Fault if it has several clocks, if the clock isn't an input, or if it is also read as a
+    value."""
     names = names_of(module)
     clocks: dict[Clock, Bit] = {}
     read: set[str | None] = set()
@@ -184,26 +187,27 @@ def clock_of(top: str, module: Json) -> Clock | None:
                 clocks.update(((names.get(bit, str(bit)), "1" in edge), bit) for bit in bits)
             elif cell["port_directions"].get(port) != "output":
                 read.update(names.get(bit) for bit in bits)
+    hint = message("multiclock")
     if len(clocks) > 1:
         shown = " and ".join(
             f"{spelled(module, clocks[clock])} ({'rising' if clock[1] else 'falling'})"
             for clock in sorted(clocks))
-        raise Fault(f"{top} has several clocks, and one is taken: {shown} ({MANY})")
+        raise Fault.of("several_clocks", top=top, clocks=shown, hint=hint)
     for (clock, _), bit in clocks.items():
         if clock in read:
-            raise Fault(f"{top} reads its clock {clock} as a value too ({MANY})")
+            raise Fault.of("clock_as_value", top=top, clock=clock, hint=hint)
         if module["ports"].get(clock, {"direction": ""})["direction"] != "input":
-            raise Fault(f"{top} makes its clock itself, and one that is an input is taken: "
-                        f"{spelled(module, bit)} ({MANY})")
+            raise Fault.of("own_clock", top=top, clock=spelled(module, bit), hint=hint)
         if clock.endswith(";"):
-            raise Fault(
-                f"{top} has the clock {clock}, and in a script of yosys a name can't end so")
+            raise Fault.of("clock_name", top=top, clock=clock)
     return next(iter(clocks), None)
 
 
 def stored(module: Json) -> Iterator[tuple[str, str]]:
-    """Yields new names for what registers with an asynchronous reset hold: the name in the design
-    has its value with the reset."""
+    """Yields pairs of an old and a new name for the stored values of registers with an asynchronous
+    reset.
+
+    The design's own name stands for the value after the reset."""
     ranked = sorted(module["netnames"].items(),
                     key=lambda it: (not it[1]["hide_name"], -it[0].count(".")))
     nets = {tuple(net["bits"]): (name, net["hide_name"]) for name, net in ranked}
@@ -222,13 +226,14 @@ def stored(module: Json) -> Iterator[tuple[str, str]]:
 
 
 def stored_name(name: str) -> str:
-    """Returns the name of what a register holds whose value with the reset has this name: that of a
-    bit is one of a bit, too."""
+    """Returns the name of a register's stored value. `name` is that of the value after the reset;
+    the index of a bit stays at the end."""
     return INDEX.sub(f"{STORED}\\1", name, count=1)
 
 
 def all_names(name: str, known: Mapping[str, list[str]]) -> list[str]:
-    """Returns all names of a register of this name, where these are known of signals."""
+    """Returns all names of a register. `known` has all names of a signal by each of them, as
+    `aliases` returns them."""
     if STORED not in name:
         return known.get(name, [name])
     own = name.replace(STORED, "")
@@ -236,8 +241,9 @@ def all_names(name: str, known: Mapping[str, list[str]]) -> list[str]:
 
 
 def free_names(module: Json) -> Iterator[tuple[str, str]]:
-    """Yields new names for inputs that stand for free values: of the net or its bits, else x0, x1
-    and so on."""
+    """Yields pairs of an old and a new name for the inputs that stand for free values.
+
+    The new name is that of the net and its bits, or x0, x1 and so on for a value without a name."""
     taken, count = set(module["netnames"]), 0
     for name, port in module["ports"].items():
         part = PART.fullmatch(name)

@@ -1,19 +1,20 @@
-"""The order of properties in a file: that of the assertions in the design's text."""
+"""Sorts the properties of a file by the places of their assertions in the design's text."""
 import itertools
 import re
 from collections.abc import Sequence
 from typing import NamedTuple
 
-# A place as yosys says it: the file, and the line and the column where it begins.
+# A source location: the file, and the line and the column where it begins.
 PLACE = re.compile(r"(.*):([0-9]+)\.([0-9]+)-[0-9.]+")
-# A part of a name, up to a number and with it.
+# A part of a name: text and the number behind it.
 PART = re.compile(r"([^0-9]*)([0-9]*)")
-# The name of a cell without a label in an instance.
+# The name of an unnamed cell in an instance.
 INNER = re.compile(r"\$flatten(\\\S*?)\.\$[a-z]+\$.*")
 
 
 class Assertion(NamedTuple):
-    """What a property stands for: its name, its place, and whether the design has that name."""
+    """The assertion that a property stands for: its name, its source location, and whether the name
+    comes from the design."""
 
     name: str
     place: str
@@ -21,7 +22,7 @@ class Assertion(NamedTuple):
 
     @property
     def path(self) -> str:
-        """Its name, or the path of the instance that it is in, if it has none."""
+        """Its name; if it has none, the path of the instance that it is in, or ""."""
         inner = INNER.fullmatch(self.name)
         if self.is_named or not inner:
             return self.name * self.is_named
@@ -29,8 +30,11 @@ class Assertion(NamedTuple):
 
 
 def order_of(assertions: Sequence[Assertion], files: Sequence[str]) -> list[int]:
-    """Returns the places of assertions in the order of the text, of these files and then others:
-    those of one place by their names, in which numbers count."""
+    """Returns the indices of assertions, sorted by the files' order, then by line and column, and
+    then by name.
+
+    Numbers in names are compared as numbers. Assertions in other files come after those of `files`,
+    and assertions without a source location last."""
 
     def key(i: int) -> tuple[bool, int, str, int, int, list[tuple[str, int]]]:
         found = PLACE.fullmatch(assertions[i].place)
@@ -44,8 +48,10 @@ def order_of(assertions: Sequence[Assertion], files: Sequence[str]) -> list[int]
 
 
 def ordered(data: bytes, order: Sequence[int], is_live: bool) -> bytes:
-    """Returns a file in binary AIGER form with its bad state properties in another order, or its
-    justice properties."""
+    """Returns a binary AIGER file with its bad state properties in another order or, if `is_live`,
+    its justice properties.
+
+    `order` has the old index of each property."""
     first, _, rest = data.partition(b"\n")
     numbers = [int(word) for word in first.split()[1:]] + [0] * 4
     _, _, latches, outputs, _, bads, constraints, lives, *_ = numbers

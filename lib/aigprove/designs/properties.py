@@ -1,7 +1,8 @@
-"""Properties with a clock, which yosys doesn't read, as blocks that are run at its edges.
+"""Rewrites clocked properties, which yosys doesn't read, as procedural blocks.
 
-Each edge begins an attempt. What stands behind a delay is looked at so many edges later, so each
-attempt that is under way has a bit of a register, which says how far it has come."""
+Each clock edge begins an attempt to match the property. An expression behind a delay is checked
+that many edges later. A shift register has a bit for each attempt under way, whose position says
+how far the attempt has come."""
 from __future__ import annotations
 
 import re
@@ -9,12 +10,14 @@ from collections.abc import Iterable, Iterator, Sequence
 from typing import NamedTuple
 
 from aigprove.circuits.aiger import Fault
+from aigprove.data import message
 from aigprove.designs.statements import closing
 
 CLOCK = re.compile(rb"\s*@\s*\(\s*((?:pos|neg)edge\s+(?:\\\S+\s|[\w$.]+))\s*\)")
 DISABLE = re.compile(rb"\s*disable\s+iff\s*(?=\()")
 EVENTUALLY = re.compile(rb"\s*s_eventually\b")
-# What parts a property, or is deeper in it; a delay; and what is no part of an expression.
+# PART are the operators between the parts of a property, and brackets. DELAY is a delay. OPERATOR
+# is what can't be part of an expression.
 PART = re.compile(rb"\|->|\|=>|##|[][(){}]")
 DELAY = re.compile(rb"##\s*([0-9]+)\b")
 OPERATOR = re.compile(
@@ -22,19 +25,15 @@ OPERATOR = re.compile(
     rb"|and|or|not|iff|implies|(?:s_)?(?:until(?:_with)?|nexttime|always|eventually)|strong|weak"
     rb"|(?:sync_)?(?:accept|reject)_on|if|else|case|disable)\b")
 IMPLYING = {b"|->": 0, b"|=>": 1}
-# How many edges later an attempt ends at most.
+# The greatest number of edges between the beginning and the end of an attempt.
 LONGEST = 4096
-CLOCKLESS = "a property has to begin with one edge of one clock, as @(posedge clk)"
-UNREAD = "{} isn't read in a property: write it with |->, |=>, ##N and expressions, " \
-    "or as registers and an assertion in a block"
-ONE_IMPLIES = "a property has one |-> or |=>: write several properties"
-COVERED = "cover property takes a sequence: write a ##1 b in place of a |=> b"
-TOO_LONG = f"a property goes on for at most {LONGEST} edges"
 
 
 class Item(NamedTuple):
-    """An expression that is looked at so many edges after an attempt began, and whether it has to
-    be true, or says for which attempts the others have to be."""
+    """An expression of a property.
+
+    It is checked `edge` edges after the attempt begins. If `is_wanted`, it has to be true then;
+    otherwise it is part of the antecedent."""
 
     edge: int
     text: bytes
@@ -42,8 +41,9 @@ class Item(NamedTuple):
 
 
 class Property(NamedTuple):
-    """A property: the edge of its clock, when it isn't asked about, what is looked at, and whether
-    the last item is wanted then or later."""
+    """A clocked property: the clock edge, the condition that disables it, and its items.
+
+    If `is_later`, the last item has to be true then or at any later step."""
 
     clock: bytes
     disable: bytes
@@ -52,17 +52,18 @@ class Property(NamedTuple):
 
     @property
     def length(self) -> int:
-        """How many edges after its begin an attempt ends."""
+        """The number of edges between the beginning and the end of an attempt."""
         return max(item.edge for item in self.items)
 
 
 def is_whole(words: bytes) -> bool:
-    """Returns whether a text is in one pair of parentheses."""
+    """Returns whether a text is enclosed in one pair of parentheses."""
     return words.startswith(b"(") and closing(words, 0) == len(words)
 
 
 def parts_of(words: bytes) -> Iterator[tuple[bytes, int]]:
-    """Yields what parts a property where it is in no parentheses, and where that stands."""
+    """Yields the operators between the parts of a property, outside of brackets, with their
+    offsets."""
     depth = 0
     for found in PART.finditer(words):
         if found[0] in (b"|->", b"|=>", b"##"):
@@ -73,7 +74,8 @@ def parts_of(words: bytes) -> Iterator[tuple[bytes, int]]:
 
 
 def plain(words: bytes) -> bytes:
-    """Returns a text in one line, without parentheses around what isn't an expression."""
+    """Returns a text in one line. Outer parentheses are removed, unless they enclose an
+    expression."""
     words = b" ".join(words.split())
     while is_whole(words) and OPERATOR.search(words):
         words = words[1:-1].strip()
@@ -81,12 +83,14 @@ def plain(words: bytes) -> bytes:
 
 
 def sequence(words: bytes, edge: int, is_wanted: bool) -> Iterator[Item]:
-    """Yields the items of a sequence that begins so many edges after an attempt does."""
+    """Yields the items of a sequence that begins `edge` edges after the attempt.
+
+    Raises Fault if the sequence has another operator than a delay by a number."""
     words, last = plain(words), 0
     for _, place in parts_of(words):
         delay = DELAY.match(words, place)
         if not delay:
-            raise Fault(UNREAD.format("## with anything but a number"))
+            raise Fault.of("no_property", what=message("delay_range"))
         if words[last:place].strip() or last:
             yield item(words[last:place], edge, is_wanted)
         edge, last = edge + int(delay[1]), delay.end()
@@ -94,21 +98,24 @@ def sequence(words: bytes, edge: int, is_wanted: bool) -> Iterator[Item]:
 
 
 def item(words: bytes, edge: int, is_wanted: bool) -> Item:
-    """Returns an item, whose text has to be an expression."""
+    """Returns an item whose text is an expression. Raises Fault if it isn't one, or if `edge` is
+    too large."""
     if edge > LONGEST:
-        raise Fault(TOO_LONG)
+        raise Fault.of("long_property", most=LONGEST)
     if found := OPERATOR.search(words):
-        raise Fault(UNREAD.format(found[0].decode()))
+        raise Fault.of("no_property", what=found[0].decode())
     if not words.strip():
-        raise Fault("an expression of a property is missing")
+        raise Fault.of("no_expression")
     return Item(edge, words.strip(), is_wanted)
 
 
 def parsed(words: bytes) -> Property:
-    """Returns the property that a text says, whose comments are blanked."""
+    """Returns the property that a text describes. Comments have to be blanked.
+
+    Raises Fault if the property has no clock, or a construct that isn't supported."""
     clock = CLOCK.match(words)
     if not clock:
-        raise Fault(CLOCKLESS)
+        raise Fault.of("no_clock")
     place, disable = clock.end(), b""
     if found := DISABLE.match(words, place):
         place = closing(words, found.end())
@@ -116,7 +123,7 @@ def parsed(words: bytes) -> Property:
     body = plain(words[place:])
     signs = [(sign, at) for sign, at in parts_of(body) if sign in IMPLYING]
     if len(signs) > 1:
-        raise Fault(ONE_IMPLIES)
+        raise Fault.of("two_implications")
     given: list[Item] = []
     edge, wanted = 0, body
     for sign, at in signs:
@@ -129,14 +136,16 @@ def parsed(words: bytes) -> Property:
 
 
 def all_of(texts: Iterable[bytes]) -> bytes:
-    """Returns an expression of one bit that says that all of these are true."""
+    """Returns an expression that is true if all the given ones are."""
     return b" && ".join([b"1'b1", *texts])
 
 
 class Block:
-    """The block of a property of a kind, with a label if that isn't empty. Its registers have names
-    that begin with this one: an attempt's bit says that the attempt came to the next edge. Each
-    expression stands there once, as one that is open has one value."""
+    """The Verilog block that checks a property.
+
+    `kind` is assert, assume or cover, and `label` is empty or ends with a colon. The names of its
+    registers begin with `name`. Each expression occurs once, so that an undefined one has one value
+    in the whole block."""
 
     def __init__(self, kind: bytes, label: bytes, name: bytes, given: Property) -> None:
         self.kind, self.label, self.given = kind, label, given
@@ -145,26 +154,27 @@ class Block:
         self.wanted_at = sorted({it.edge for it in given.items if it.is_wanted})
 
     def value(self, i: int) -> bytes:
-        """Returns the value of an expression at an edge, by its place among them."""
+        """Returns an expression for the value of the item at this index; the index behind the last
+        item is the disable condition."""
         return b"%s[%d]" % (self.now, i) if self.given.length else b"(%s)" % self.texts[i]
 
     def values(self, edge: int, is_wanted: bool) -> list[bytes]:
-        """Returns the values of the items that are looked at so many edges after an attempt
-        began."""
+        """Returns the values of the items that are checked `edge` edges after the beginning."""
         return [self.value(i) for i, it in enumerate(self.given.items)
                 if (it.edge, it.is_wanted) == (edge, is_wanted)]
 
     def asked(self, edge: int) -> list[bytes]:
-        """Returns what is true of an attempt of which something is wanted there."""
+        """Returns the conditions under which an attempt needs its wanted items to be true at an
+        edge."""
         under_way = [b"%s[%d]" % (self.attempts, edge - 1)] if edge else []
         return under_way + self.values(edge, False)
 
     def passed(self, edge: int) -> bytes:
-        """Returns what is true of an attempt that goes on there, or has come to its end."""
+        """Returns the condition under which an attempt continues behind an edge, or is complete."""
         return all_of(self.asked(edge) + self.values(edge, True))
 
     def claim(self) -> bytes:
-        """Returns the assertion."""
+        """Returns the assertion, assumption or cover statement."""
         last = self.given.length
         if self.kind == b"cover":
             return b"%scover (%s);" % (self.label, self.passed(last))
@@ -177,7 +187,7 @@ class Block:
             for edge in self.wanted_at))
 
     def text(self) -> bytes:
-        """Returns the block, and its registers."""
+        """Returns the text of the block and its registers."""
         off, length = self.value(len(self.given.items)) if self.given.disable else b"0", \
             self.given.length
         claim = (b"if (!%s) " % off if self.given.disable else b"") + self.claim()

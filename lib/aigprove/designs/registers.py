@@ -1,14 +1,14 @@
-"""Registers and latches of one bit, as synthesis makes them (`$_DFFE_PP0P_`), which become those of
-any width (`$adffe`): a pass that the file is made by takes no others."""
+"""Replaces one-bit registers and latches of gate-level netlists (`$_DFFE_PP0P_`) by cells of any
+width (`$adffe`), which later passes need."""
 import re
 from collections.abc import Mapping
 
 from aigprove.designs.rtlil import Statement
 
-# The type of a cell of one bit: what it is, and a letter for each thing that it depends on: the
-# level or the edge that counts (N, P), or the value that a reset gives (0, 1).
+# The type of a one-bit cell: its kind, and a letter for each control signal: its active level or
+# edge (N, P), or the reset value (0, 1).
 FINE = re.compile(r"\$_([A-Z]+)_(?:([NP01]+)_)?")
-# What such a cell becomes, and what its letters say, in order.
+# By the kind and the number of letters: the new type, and the meaning of each letter.
 COARSE = {
     ("FF", 0): ("$ff", ""),
     ("SR", 2): ("$sr", "SET CLR"),
@@ -27,15 +27,14 @@ COARSE = {
     ("DLATCH", 3): ("$adlatch", "EN ARST ARST_VALUE"),
     ("DLATCHSR", 3): ("$dlatchsr", "EN SET CLR"),
 }
-# What its ports may be called there, and the bits that stand for its letters.
+# The new names that a port may have.
 PORTS = {"\\C": ["CLK"], "\\E": ["EN"], "\\S": ["SET"], "\\L": ["ALOAD"],
          "\\R": ["ARST", "SRST", "CLR"]}
 LEVELS = str.maketrans("NP", "01")
 
 
 def widened(design: Statement) -> None:
-    """Gives the registers and latches of one bit in a design the types that those of any width
-    have."""
+    """Replaces the one-bit registers and latches of a design."""
     for module in design.of("module"):
         for cell in module.of("cell"):
             if found := FINE.fullmatch(cell.type):
@@ -45,7 +44,7 @@ def widened(design: Statement) -> None:
 
 
 def widen(cell: Statement, kind: str, letters: Mapping[str, str]) -> None:
-    """Makes a cell one of this type, whose things have these letters."""
+    """Gives a cell the type `kind`. `letters` has the letter of each control signal."""
     cell.text = f"{kind} {cell.name}"
     parameters = [Statement("parameter", "\\WIDTH 1")]
     for name, letter in letters.items():

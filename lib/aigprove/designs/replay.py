@@ -1,4 +1,4 @@
-"""A run that yosys simulated: the values of all signals of a design, and which of them an assertion
+"""Simulates a trace in yosys, and finds out which signals of the design the failing assertion
 reads."""
 from __future__ import annotations
 
@@ -17,17 +17,18 @@ from aigprove.output.signals import number, word
 if TYPE_CHECKING:
     from aigprove.designs.verilog import Design
 
-# Time units of a step in what yosys writes.
+# The time units of a step in yosys's dumps.
 STEP = 10
-# How many signals that an assertion reads are looked at.
+# The greatest number of signals that are reported for an assertion.
 MOST = 40
 BIT = re.compile(r"(.+)\[([0-9]+)\]")
 CLOCKED = re.compile(r"\$[a-z]*ff|\$_[A-Z]*FF")
 
 
 class Read(NamedTuple):
-    """A signal that an assertion reads, how many steps before, and whether it does so by no other
-    signal that has a name."""
+    """A signal that an assertion reads.
+
+    `back` is how many steps earlier, and `is_direct` whether no other named signal is between."""
 
     name: str
     back: int
@@ -35,8 +36,8 @@ class Read(NamedTuple):
 
 
 def values_of(text: str, wanted: Container[str]) -> list[dict[str, str]]:
-    """Returns the values of these signals in each step, the highest bit first, in a value change
-    dump of yosys's."""
+    """Returns the values of the `wanted` signals in each step, highest bit first. `text` is a value
+    change dump written by yosys."""
     scopes: list[str] = []
     codes = collections.defaultdict[str, list[str]](list)
     now: dict[str, str] = {}
@@ -61,8 +62,8 @@ def values_of(text: str, wanted: Container[str]) -> list[dict[str, str]]:
 
 
 def marked(text: str, sampled: int, last: int) -> str:
-    """Returns a value change dump of yosys's, up to a last step, in which a signal is 1 in the step
-    that is sampled."""
+    """Returns a value change dump up to the step `last`, with a signal that is 1 in the step
+    `sampled`."""
     head, begins, body = text.partition("$enddefinitions")
     for t, value in {0: 0, sampled + 1: 0, sampled: 1}.items():
         if t <= last:
@@ -72,14 +73,14 @@ def marked(text: str, sampled: int, last: int) -> str:
 
 
 class Module:
-    """A flat module in JSON of yosys's, and what each bit has: a name, and a cell that makes it."""
+    """A flat module that yosys wrote as JSON, with the name and the driving cell of each bit."""
 
     def __init__(self, module: Json) -> None:
         self.module = module
         self.names: dict[Bit, str] = {}
         self.makers: dict[Bit, Json] = {}
         nets = {name: net for name, net in module["netnames"].items() if not net["hide_name"]}
-        # Of several names the outermost stays, and the shortest.
+        # Of several names, the one of the outermost module counts, and of those the shortest.
         for name in sorted(nets, key=lambda it: (-it.count("."), -len(it), it)):
             self.names.update(dict.fromkeys(nets[name]["bits"], name))
         for cell in module["cells"].values():
@@ -88,20 +89,21 @@ class Module:
                     self.makers.update(dict.fromkeys(bits, cell))
 
     def place(self, name: str, index: int) -> int:
-        """Returns which bit of a signal, from the lowest on, has this index."""
+        """Returns the position of the bit with this index in a signal, from the lowest on."""
         net = self.module["netnames"][name]
         return -1 if net.get("upto") else index - int(net.get("offset", 0))
 
     def width(self, name: str) -> int:
-        """Returns how many bits a signal has."""
+        """Returns the number of bits of a signal."""
         return len(self.module["netnames"][name]["bits"])
 
     def read_by(self, name: str) -> list[Read]:
-        """Returns what the assertion of this name reads, up to registers and inputs, the nearest
-        first: registers without a name are those that yosys makes of an assertion at a clock's
-        edge, which reads what was there a step before. With several clocks each register has such
-        ones that hold its last value, so each is passed once: a way around that goes back without
-        an end."""
+        """Returns the signals that an assertion reads, up to registers and inputs, the nearest
+        first.
+
+        Yosys adds unnamed registers to an assertion at a clock edge, which sample the values of the
+        step before. With several clocks each register has further ones for its last value; each is
+        passed only once, as they form cycles."""
         cell = self.module["cells"].get(name)
         ports = cell["connections"] if cell else {}
         left = collections.deque((bit, 0, True) for port in ("A", "EN")
@@ -128,17 +130,17 @@ class Module:
 
 
 def read_as(name: str) -> str:
-    """Returns the name with which a signal is read in the design, also of what a register, or a bit
-    of one, holds beside that."""
+    """Returns the name by which the design reads a signal, also if the signal is the stored value
+    of a register."""
     return BIT.sub(r"\1", name).removesuffix(STORED) if STORED in name else name
 
 
 class Replay:
-    """What yosys finds where it runs a witness on a design."""
+    """A simulation of a trace in yosys. Raises Fault if the trace is too long, or yosys fails."""
 
     def __init__(self, design: Design, circuit: Circuit, trace: Witness) -> None:
         if len(trace.steps) * len(circuit.gates) > SIMULATED:
-            raise Fault(f"the run has {len(trace.steps)} steps")
+            raise Fault.of("long_run", steps=len(trace.steps))
         failed, dump = design.run(trace)
         self.module, self.trace = design.module, trace
         name, last = design.assertions[trace.bad][0], len(trace.steps) - 1
@@ -149,12 +151,12 @@ class Replay:
         words = {place: found[1] if found else held[place] for place, found in bits.items()}
         inputs = {BIT.sub(r"\1", circuit.name("i", i).decode("utf-8", "replace"))
                   for i in range(len(circuit.inputs))}
-        # What a register holds beside its name in the design is another's value in the step before.
+        # The stored value of a register is the value of another signal in the step before.
         names = list(dict.fromkeys(it.name for it in reads))
         seen = [name for name in names
                 if name not in inputs and read_as(name) not in set(names) - {name}]
         self.values = values_of(dump, {*names, *words.values()})
-        # An assertion at a clock's edge is about the step that the edge ends.
+        # An assertion at a clock edge is about the step that the edge ends.
         is_at_edge = any(it.back for it in reads if it.is_direct)
         self.dump = marked(dump, last - is_at_edge, last)
         self.latches = {int(place[1:]) for place, name in words.items() if name in names}
@@ -165,19 +167,19 @@ class Replay:
                                                                           f"{design.top}.{name} (")
 
     def shown(self, name: str, t: int) -> str:
-        """Returns a signal's value in a step, as it is printed."""
+        """Returns the printed form of a signal's value in step `t`."""
         bits = self.values[t][name] if t < len(self.values) else "x"
         return f"{word(name)}={number(list(reversed(bits.rjust(self.module.width(name), '0'))))}"
 
     def changed(self, t: int, names: Iterable[str], at_first: Container[str]) -> list[str]:
-        """Returns the signals whose values are others than in the step before; of the first step
-        those that aren't among what is there initially."""
+        """Returns the signals whose values differ from the step before; in step 0 those that aren't
+        in `at_first`."""
         return [self.shown(name, t) for name in names
                 if (self.shown(name, t) != self.shown(name, t - 1) if t else name not in at_first)]
 
     def read(self, last: int) -> Iterator[str]:
-        """Yields a line of the values that the assertion read, where it failed in this step, by the
-        step in which it read them."""
+        """Yields a line for each step in which the assertion read signals, with their values. The
+        assertion fails in the step `last`."""
         for back in sorted({it.back for it in self.direct}):
             values = [self.shown(it.name, last - back)
                       for it in self.direct if it.back == back and back <= last]
@@ -185,16 +187,16 @@ class Replay:
                 yield f"in step {last - back} it reads {' '.join(values)}"
 
     def other(self, design: Design, failed: Sequence[str], name: str) -> str | None:
-        """Returns what fails where yosys runs the design, if that isn't the assertion of this
-        name."""
+        """Returns which other assertions fail in yosys, or None if the expected one fails. `name`
+        is how its line begins."""
         if any(it.startswith(name) for it in failed):
             return None
-        return f"{design.yosys.told(' and '.join(failed)) or 'none'} fails"
+        return f"{design.yosys.readable(' and '.join(failed)) or 'none'} fails"
 
     def differing(self, circuit: Circuit,
                   held: Mapping[str, str], words: Mapping[str, str]) -> str | None:
-        """Returns a register that has another value where yosys runs the design than in the file,
-        if there is one."""
+        """Returns a description of a register whose value in yosys differs from that in the file,
+        or None."""
         run = self.trace.filled()
         for t, values in enumerate(simulation.run(circuit, run.start, run.steps)):
             for i, latch in enumerate(circuit.latches):

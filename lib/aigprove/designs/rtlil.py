@@ -1,7 +1,7 @@
-"""Yosys's own language (RTLIL), as write_rtlil writes it: one parser, and what writes it again.
+"""Parses and writes RTLIL, yosys's own language.
 
-A line is a statement: its kind, which is its first word, and its further words. Before it may stand
-attributes; modules, cells, processes, switches, cases and syncs have statements of their own."""
+Each line is a statement: its kind, which is the first word, and further words. Attributes may
+precede it. Modules, cells, processes, switches, cases and sync rules contain statements."""
 from __future__ import annotations
 
 import re
@@ -10,8 +10,8 @@ from typing import NamedTuple
 
 from aigprove.circuits.aiger import Fault
 
-# What may belong to a statement of each kind; some of these end where the next one begins, or with
-# what they belong to.
+# The kinds of statements that a statement may contain. ENDLESS are those without an `end` of their
+# own: they end where the next one or the enclosing one ends.
 BLOCKS = {
     "design": {"autoidx", "module"},
     "module": {"parameter", "wire", "memory", "cell", "process", "connect"},
@@ -19,15 +19,15 @@ BLOCKS = {
     "switch": {"case"}, "case": {"assign", "switch"}, "sync": {"update", "memwr"},
 }
 ENDLESS = {"case", "sync"}
-# A word, which may be a text with blanks in it; bits of a signal; and a constant.
+# A word, which may be a quoted text; a range of bits; and a constant.
 WORD = re.compile(r'"(?:\\.|[^"\\])*"|\S+')
 RANGE = re.compile(r"\[([0-9]+)(?::([0-9]+))?\]")
 CONSTANT = re.compile(r"([0-9]+)'([01xzm-]*)")
 
 
 class Part(NamedTuple):
-    """A part of a signal: a constant, with its bits, or a net by its name, with the highest and the
-    lowest of its bits if these aren't all."""
+    """A part of a signal: the bits of a constant, or a net's name, with the highest and lowest bit
+    if it is a slice."""
 
     name: str
     bits: str = ""
@@ -43,12 +43,12 @@ class Part(NamedTuple):
             f"{self.name} [{self.high}:{self.low}]"
 
 
-# The parts of a signal, the highest bits first.
+# A signal: its parts, highest bits first.
 Signal = list[Part]
 
 
 class Statement:
-    """A statement: its kind, its further words, its attributes by their names, and what belongs to
+    """A statement: its kind, its other words as one text, its attributes, and the statements in
     it."""
 
     __slots__ = ("attributes", "body", "kind", "text")
@@ -59,12 +59,12 @@ class Statement:
         self.body: list[Statement] = []
 
     def words(self) -> list[str]:
-        """Returns its words behind its kind."""
+        """Returns its words behind the kind."""
         return self.text.split(" ") if '"' not in self.text else WORD.findall(self.text)
 
     @property
     def name(self) -> str:
-        """The name of what it declares: its last word, and a parameter's stands before a value."""
+        """The name that it declares: its last word, or the word in front of a parameter's value."""
         words = self.words()
         return words[-1] if self.kind != "parameter" else next(
             word for word in words if word.startswith("\\"))
@@ -76,22 +76,22 @@ class Statement:
 
     @property
     def source(self) -> str:
-        """Its place in the design's text, as yosys says it."""
+        """Its source location, or ""."""
         return self.attributes.get("\\src", '""').strip('"')
 
     def of(self, *kinds: str) -> list[Statement]:
-        """Returns the statements of these kinds that belong to it."""
+        """Returns the contained statements of these kinds."""
         return [it for it in self.body if it.kind in kinds]
 
     def all(self) -> Iterator[Statement]:
-        """Yields it, and all statements that belong to it, in their order."""
+        """Yields the statement and everything in it, in order."""
         yield self
         for it in self.body:
             yield from it.all()
 
     def signals(self) -> list[Signal]:
-        """Returns the signals that are its words, which may be in braces; of a case there may be
-        commas between."""
+        """Returns the signals that its words describe. Concatenations are in braces, and those of a
+        case are separated by commas."""
         found: list[Signal] = []
         depth = 0
         for word in self.words():
@@ -107,13 +107,13 @@ class Statement:
         return found
 
     def put(self, signals: Iterable[Signal]) -> None:
-        """Gives it other signals as its words."""
+        """Replaces its words by the given signals."""
         self.text = " ".join(map(spelled, signals))
 
 
 def part_of(word: str) -> Part:
-    """Returns the part of a signal that a word is: of a constant with more bits than are spelled,
-    the first one stands for those before it."""
+    """Returns the part of a signal that a word describes. If a constant has fewer digits than bits,
+    its first digit is repeated."""
     constant = CONSTANT.fullmatch(word)
     if not constant:
         return Part(word)
@@ -121,17 +121,19 @@ def part_of(word: str) -> Part:
 
 
 def spelled(signal: Signal) -> str:
-    """Returns the words of a signal."""
+    """Returns the text of a signal."""
     return str(signal[0]) if len(signal) == 1 else " ".join(["{", *map(str, signal), "}"])
 
 
 def constant(signal: Signal) -> str:
-    """Returns the bits of a signal that is constants alone; else none."""
+    """Returns the bits of a signal that consists of constants, and "" for any other."""
     return "".join(part.bits for part in signal) if all(part.bits for part in signal) else ""
 
 
 def parse(text: str) -> Statement:
-    """Returns a design, to which all its modules belong."""
+    """Returns the design that a text describes; its modules are the statements in it.
+
+    Raises Fault if a line isn't known, or if the text ends too early."""
     design = Statement("design")
     path, attributes = [design], dict[str, str]()
     for line in text.split("\n"):
@@ -149,14 +151,14 @@ def parse(text: str) -> Statement:
             attributes = {}
             path += path[-1].body[-1:] * (kind in BLOCKS)
         elif kind and not kind.startswith("#"):
-            raise Fault(f"yosys writes a line that isn't known: {line.strip()}")
+            raise Fault.of("unknown_line", line=line.strip())
     if len(path) > 1 or attributes:
-        raise Fault("what yosys writes ends too early")
+        raise Fault.of("rtlil_cut")
     return design
 
 
 def lines_of(statement: Statement, depth: int) -> Iterator[str]:
-    """Yields the lines of a statement, so far from the left."""
+    """Yields the lines of a statement, indented `depth` times."""
     indent = "  " * depth
     for name, value in statement.attributes.items():
         yield f"{indent}attribute {name} {value}"

@@ -1,23 +1,27 @@
-"""Lists of events of combinational blocks: yosys runs such a block whenever something that it reads
-changes, and Verilog only when something in its list does."""
+"""Finds incomplete sensitivity lists of combinational blocks.
+
+Yosys evaluates such a block whenever a signal that it reads changes, and a simulator only when a
+signal in its list changes."""
 import re
 from collections.abc import Collection, Iterator, Mapping
 
 from aigprove.circuits.aiger import decoded
+from aigprove.data import message
 from aigprove.designs.statements import Blocks
 from aigprove.designs.texts import Text
 
 LIST = re.compile(rb"(?<![\w$.`])always\s*@\s*\(([^()*]*)\)")
 EDGE = re.compile(rb"\b(?:pos|neg)edge\b")
 NAME = re.compile(rb"(?<![\w$.`'\\])[A-Za-z_][\w$]*")
-# What a statement gives a value.
+# The target of an assignment.
 ASSIGNED = re.compile(rb"(?:[;):]|\bbegin|\belse)\s*([A-Za-z_][\w$]*)\s*(?:\[[^]]*\]\s*)*<?=(?!=)")
-LACKS = "always @({}) doesn't wait for {}, which the block reads: yosys takes it for always @*"
 
 
 def lacking(text: Text, nets: Mapping[str, Collection[str]]) -> Iterator[tuple[int, str]]:
-    """Yields the places of blocks that read nets which aren't in their lists, and what to say of
-    it. The nets of each module are given."""
+    """Yields the offsets of blocks that read nets which aren't in their sensitivity lists, with a
+    note about each.
+
+    `nets` has the names of each module's nets."""
     found = [it for it in LIST.finditer(text.words) if not EDGE.search(it[1])]
     blocks, spans = Blocks(text.words if found else b""), text.spans() if found else iter(())
     module, end = "", 0
@@ -30,4 +34,4 @@ def lacking(text: Text, nets: Mapping[str, Collection[str]]) -> Iterator[tuple[i
             names = sorted(name for name in map(decoded, own) if name in nets.get(module, ()))
             if names:
                 listed = " ".join(decoded(it[1]).split())
-                yield it.start(), LACKS.format(listed, ", ".join(names))
+                yield it.start(), message("sensitivity", listed=listed, names=", ".join(names))

@@ -1,16 +1,17 @@
-"""Texts in Verilog once their macros are expanded: which modules they have, and what yosys reads
-otherwise than Verilog has it, without a word. That is refused, by its place."""
+"""Preprocessed Verilog texts: their modules, and the constructs in them that yosys silently
+misreads, which are refused."""
 import collections
 import re
 from collections.abc import Iterable, Iterator, Mapping
 
 from aigprove.circuits.aiger import Fault, decoded
+from aigprove.data import message
 
-# What yosys prints of a file whose macros are expanded.
+# What yosys prints around a preprocessed file.
 EXPANDED = re.compile(rb"^-- Verilog code after preprocessor --\n(.*?)^-- END OF DUMP --$\n?",
                       re.MULTILINE | re.DOTALL)
 MARKS = [b"-- Verilog code after preprocessor --", b"-- END OF DUMP --"]
-# What is no word of a text; and its words.
+# SPACE are comments and strings. WORD is a word or a directive.
 SPACE = re.compile(
     rb'/\*\s*(?:synopsys|synthesis)\s+translate_off\s*\*/.*?'
     rb'/\*\s*(?:synopsys|synthesis)\s+translate_on\s*\*/'
@@ -23,34 +24,28 @@ WORD = re.compile(
     rb"`default_nettype[ \t]+\w+|`file_(?:push|pop)[^\n]*|`\w+|\\[^\s]+|[A-Za-z_$][\w$]*")
 TYPED, INITIAL, BIND = (re.compile(rb"(?<![\w$.`])(%s)\b" % word)
                         for word in [b"typedef", b"initial", b"bind"])
-# A comment behind which yosys reads nothing, words of such, and in whose place they stand.
+# OFF is a comment behind which yosys reads nothing. Such comments of the text itself are disabled
+# by replacing the underscore in them.
 OFF, TRANSLATE, UNTRANSLATED = b"/* synthesis translate_off */", re.compile(
     rb"translate_(on|off)"), re.compile(rb"translate-(on|off)")
-# What ends a statement, or a part of it; `always` without an event; and what is bound to a module.
+# PART are words that end a statement or a part of it. ALWAYS is `always` without an event control.
+# BOUND is an instance that is bound to a module.
 PART = re.compile(rb"\b(?:begin|end|else)\b|;")
 ALWAYS = re.compile(rb"(?<![\w$.`])(always)\b(?!\s*@)")
 BOUND = re.compile(rb"(?<![\w$.`])bind\s+([A-Za-z_][\w$]*)\s+([A-Za-z_\\][^;]*;)")
-# Words that may stand behind an index of what isn't a type.
+# The words that may follow an index of something that isn't a type.
 OPERATORS = rb"(?!(?:or|and|inside|dist|iff|else|matches|with|end)\b)"
-DELAY = "a delay in an initial block isn't read, nor when what is behind it happens"
-ENDLESS = "yosys reads always without an event as a combinational block: let a clock be an input"
-UNENDED = "a comment isn't ended"
-DIMENSIONS = "yosys drops the dimensions of a variable whose type has a name: " \
-    "let the type have them"
-BINDING = "bind is read where it names a module of the files, and one instance: " \
-    "write the instance into the module"
 
 
 class Text:
-    """A text without comments and strings, in whose place are blanks, and its places in the files
-    that it is made of."""
+    """A Verilog text. In `words`, blanks replace its comments and strings."""
 
     def __init__(self, text: bytes) -> None:
         self.text = text
         self.words = SPACE.sub(lambda found: re.sub(rb"[^\n]", b" ", found[0]), text)
 
     def place(self, offset: int) -> str:
-        """Returns the file and the line of an offset."""
+        """Returns the file and the line of an offset, as FILE:LINE."""
         paths, lines = [""], [0]
         for found in PUSHED.finditer(self.text, 0, offset):
             if found[0] == b"\n":
@@ -64,37 +59,39 @@ class Text:
         return f"{paths[-1]}:{lines[-1]}"
 
     def fault(self, offset: int, why: str) -> Fault:
-        """Returns the fault that is at an offset."""
-        return Fault(f"{self.place(offset)}: {why}")
+        """Returns the exception for an error at an offset."""
+        return Fault.of("of_file", path=self.place(offset), why=why)
 
     def check(self, below: Iterable[str]) -> None:
-        """Refuses what yosys reads otherwise than Verilog has it, in these modules and outside of
-        all."""
+        """Raises Fault for a construct that yosys silently misreads, in one of the modules `below`
+        or outside of all modules."""
         for offset, why in sorted(self.misread()):
             if self.module(offset) in {None, *below}:
                 raise self.fault(offset, why)
 
     def misread(self) -> Iterator[tuple[int, str]]:
-        """Yields the places of what yosys reads otherwise than Verilog has it, and what to say of
-        it."""
+        """Yields the offsets of constructs that yosys silently misreads, with the message about
+        each."""
         for found in INITIAL.finditer(self.words):
             if b"#" in self.words[found.end():self.ending(found.end())]:
-                yield found.start(1), DELAY
-        yield from ((found.start(1), ENDLESS) for found in ALWAYS.finditer(self.words))
-        # Behind it yosys reads nothing, nor what stands at the end for us.
-        yield from ((found.start(), UNENDED) for found in re.finditer(rb"/\*", self.words))
+                yield found.start(1), message("delay")
+        yield from ((found.start(1), message("endless_always"))
+                    for found in ALWAYS.finditer(self.words))
+        # Behind an unclosed comment yosys reads nothing, not even what aigprove appends.
+        yield from ((found.start(), message("open_comment"))
+                    for found in re.finditer(rb"/\*", self.words))
         if names := set(self.types()):
             dimensions = rb"(?<![\w$.`])(%s)\s*(?:\[[^][]*\]\s*)+%s[A-Za-z_\\]" % (
                 b"|".join(map(re.escape, names)), OPERATORS)
-            yield from ((found.start(1), DIMENSIONS)
+            yield from ((found.start(1), message("dimensions"))
                         for found in re.finditer(dimensions, self.words))
 
     def module(self, offset: int) -> str | None:
-        """Returns the name of the module at an offset; None outside of all."""
+        """Returns the name of the module at an offset, or None outside of all modules."""
         return next((name for name, first, end, _ in self.spans() if first <= offset < end), None)
 
     def ending(self, offset: int) -> int:
-        """Returns where the statement ends that begins at an offset."""
+        """Returns the offset behind the statement that begins at an offset."""
         depth = 0
         for found in PART.finditer(self.words, offset):
             depth += {b"begin": 1, b"end": -1}.get(found[0], 0)
@@ -105,7 +102,7 @@ class Text:
         return len(self.words)
 
     def types(self) -> Iterator[bytes]:
-        """Yields the names of types that it declares."""
+        """Yields the names of the types that the text declares."""
         for found in TYPED.finditer(self.words):
             depth, place = 0, found.end()
             while place < len(self.words) and (depth or self.words[place:place + 1] != b";"):
@@ -114,8 +111,8 @@ class Text:
             yield from re.findall(rb"[A-Za-z_][\w$]*", self.words[found.end():place])[-1:]
 
     def spans(self) -> Iterator[tuple[str, int, int, bool]]:
-        """Yields the name of each module, where it begins, where its last word is, and whether
-        implicit nets are allowed in it."""
+        """Yields for each module its name, the offsets where it begins and of its last word, and
+        whether implicit nets are allowed in it."""
         name, first, is_next, is_allowed = None, 0, False, True
         for found in WORD.finditer(self.words):
             word = found[0]
@@ -129,7 +126,8 @@ class Text:
                 yield name, first, found.start(), is_allowed
 
     def with_lines(self, lines: Mapping[str, bytes]) -> bytes:
-        """Returns the text with lines before the end of each module, by its name."""
+        """Returns the text with lines inserted at the end of each module, given by the module's
+        name."""
         parts, last = [], 0
         for module, _, end, _ in self.spans():
             parts += [self.text[last:end], lines.get(module, b"")]
@@ -137,8 +135,8 @@ class Text:
         return b"".join([*parts, self.text[last:]])
 
     def without_bound(self, lines: dict[str, bytes]) -> bytes:
-        """Returns the text without the instances that it binds to modules, which are added to the
-        lines of these."""
+        """Returns the text without the instances that it binds to modules. They are appended to
+        `lines` of their modules."""
 
         def blank(found: re.Match[bytes]) -> bytes:
             own = self.text[found.start(2):found.end(2)]
@@ -153,40 +151,44 @@ class Text:
 
 
 def expanded(data: bytes) -> list[bytes]:
-    """Returns the texts of the files in what yosys printed of them."""
+    """Returns the preprocessed texts of the files. `data` is what yosys printed.
+
+    Raises Fault if a text has a line that yosys prints around texts."""
     texts = EXPANDED.findall(data)
     if any(data.count(mark) != len(texts) for mark in MARKS):
-        raise Fault(f"the design has a line {MARKS[-1].decode()}, which yosys prints too")
+        raise Fault.of("dump_line", line=MARKS[-1].decode())
     return texts
 
 
 def unread(text: bytes) -> bytes:
-    """Returns a text that yosys doesn't read, but whose macros it expands: behind this comment
-    nothing is read, and others such are no longer."""
+    """Returns a text that yosys preprocesses but doesn't read: it is behind a comment that disables
+    reading."""
     return OFF + TRANSLATE.sub(rb"translate-\1", text)
 
 
 def read_again(text: bytes) -> bytes:
-    """Returns a text that wasn't to be read, once its macros are expanded, as one that is."""
+    """Returns a preprocessed text of `unread` in which reading is enabled again."""
     return UNTRANSLATED.sub(rb"translate_\1", text.replace(OFF, b"", 1))
 
 
 def bound(texts: Mapping[str, bytes]) -> dict[str, bytes]:
-    """Returns texts, by their files' paths, in which instances that are bound to modules stand in
-    these."""
+    """Returns texts in which bound instances stand in their modules, by the files' paths.
+
+    Raises Fault if `bind` is used in another way, or names another module."""
     lines = collections.defaultdict[str, bytes](bytes)
     without = {path: Text(Text(text).without_bound(lines)) for path, text in texts.items()}
     for text in without.values():
         if found := BIND.search(text.words):
-            raise text.fault(found.start(1), BINDING)
+            raise text.fault(found.start(1), message("bind"))
     known = {name for text in without.values() for name, *_ in text.spans()}
     for name in lines.keys() - known:
-        raise Fault(f"{name}: {BINDING}")
+        raise Fault.of("of_file", path=name, why=message("bind"))
     return {path: text.with_lines(lines) for path, text in without.items()}
 
 
 def moved(text: bytes, before: Iterable[int], now: Iterable[int]) -> bytes:
-    """Returns a text whose folders had these descriptors, and now have others."""
+    """Returns a text in which the descriptors `before` of folders are replaced by those of
+    `now`."""
     numbers = dict(zip(before, now))
     return FOLDER.sub(lambda found: found[1] + b"%d" % numbers.get(int(found[2]), int(found[2])),
                       text)

@@ -1,9 +1,9 @@
-"""Designs, made files in AIGER form by yosys: assertions become bad state properties, and
+"""Translates designs into AIGER files by yosys. Assertions become bad state properties, and
 assumptions constraints.
 
-The machine is the design that was meant. What nothing says is open: a register without an initial
-value initially, and in each step a net or a bit without a driver and each x. So each gets a free
-value, an input of the file, before a pass of yosys may choose one."""
+Whatever the design leaves undefined may have any value: an uninitialised register at step 0, and in
+each step an undriven net and each `x`. Each becomes an input of the file, before a pass of yosys
+could choose its value."""
 import functools
 import os
 import re
@@ -24,36 +24,36 @@ from aigprove.output.messages import escaped, plain
 from aigprove.processes.files import path_of
 from aigprove.processes.scheduler import Task
 
-# What is said of a pass of yosys that breaks, and of signals that depend on each other.
+# How the message about a crash of yosys ends.
 BROKEN = "was ended by SIGSEGV"
-LOOP = "{} has a combinational loop through {}: let a register be between, or, if that should be " \
-    "no latch, give it a value in each case"
-# How long the text of a small design is.
+# The size in bytes of a small design.
 SMALL = 1 << 17
-# What finds fewer gates, and how long the text of a design is that is compared in less time without
-# that.
+# FEWER are the commands that reduce the number of gates by ABC. BRIEF is the size in bytes up to
+# which two designs are compared faster without them.
 FEWER, ABC, BRIEF = "abc -g AND\nopt_clean", "berkeley-abc", 1 << 20
-# The attribute of a net with its path, and the clock of a design that has none.
+# The attribute with a net's path, and the clock that is added to a design without one.
 HDLNAME, CLOCKED = "\\hdlname", (scripts.SPARE, True)
-# How many signs of an assertion's text are printed.
+# The greatest number of characters of an assertion's text that are printed.
 SPELLED = 200
-# The files of our own that cells are made by: an included file has no such name.
+# The files of aigprove's own cells, in source locations. An included file doesn't have such a name.
 MADE = re.compile(r"aigprove_[a-z]+\.v:")
-# What is counted of what is asked about.
+# The types of cells that the line about a design counts.
 COUNTED = {**dict.fromkeys([ASSERT, COVER], ["$assert", "$assume"]),
            LIVE: ["$live", "$fair", "$assume"]}
 FAILED = re.compile(r"^Warning: Assert (\S+ \(.*\)) failed\.$", re.MULTILINE)
 
 
 def place_of(source: str) -> str:
-    """Returns the place of a cell of a flat module, of which yosys has those of the instances
-    before it, and of what it was made by behind it."""
+    """Returns the source location of a cell in a flat module, without those of the enclosing
+    instances and of aigprove's own cells."""
     own = [place for place in source.split("|") if not MADE.match(place)]
     return own[-1] if own else ""
 
 
 class Design(ReadDesign):
-    """A design whose file is made in a folder, and what is asked about it."""
+    """A design that has been translated into an AIGER file, and its properties.
+
+    Raises Fault if the design is refused, and TranslationTimeout if the time is over."""
 
     def __init__(self, files: Sequence[File],
                  options: DesignOptions, folder: str, task: Task) -> None:
@@ -61,28 +61,29 @@ class Design(ReadDesign):
         try:
             self.make()
         except Fault as why:
-            # Some passes of yosys go around in a loop until their stack is full.
+            # Some passes of yosys recurse without end in a combinational loop.
             loop = netlist.loop_in(self.top_of("drawn.json")[1]) if BROKEN in str(why) else []
             if not loop:
-                raise type(why)(self.yosys.told(str(why))) from None
-            raise Fault(LOOP.format(self.top, ", ".join(loop))) from None
+                raise type(why)(self.yosys.readable(str(why))) from None
+            raise Fault.of("loop", top=self.top, names=", ".join(loop)) from None
 
     def make(self) -> None:
-        """Makes the file."""
+        """Translates the design."""
         options = self.options
         self.top, module, given = self.free()
         self.clock, self.constants = netlist.clock_of(self.top, module), netlist.constants(module)
         self.counts = {kind: len(netlist.cells_like(module, kind))
                        for kind in COUNTED[options.kind]}
-        # With several clocks the reset is among the assumptions by now.
+        # With several clocks the cells of the reset are among the assumptions already.
         self.counts["$assume"] -= bool(self.reset and options.multiclock)
         self.assertions = self.write(module, given)
         self.file = self.yosys.place("design.aig")
 
     def free(self) -> tuple[str, Json, Container[str]]:
-        """Makes inputs of what is free, and gives the name of the top module, what it has then, and
-        the names of the ports that were given. Of a design that is compared all names are
-        written."""
+        """Turns undefined values into inputs.
+
+        Returns the name of the top module, its netlist, and the names of the ports that the design
+        itself has. If two designs are compared, all names of nets are written."""
         named = "json -o whole.json w:*" if self.options.is_compared else "write_rtlil whole.il"
         words = {"flat": self.flat, "partial": self.partial, "memories": self.memories,
                  "chosen": scripts.CHOSEN[self.options.kind], "named": named}
@@ -93,17 +94,16 @@ class Design(ReadDesign):
             netlist.check_drivers(top, drawn)
         top, module = self.top_of("free.json")
         if not WORD.fullmatch(top):
-            raise Fault(f"{top} is no name of a module")
+            raise Fault.of("not_module", name=top)
         return top, module, drawn["ports"].keys()
 
     def top_of(self, name: str) -> tuple[str, Json]:
-        """Returns the name of the top module and what it has, in a file in JSON."""
+        """Returns the name and the netlist of the top module in a JSON file."""
         return next((name, it)
                     for name, it in self.yosys.modules(name).items() if "top" in it["attributes"])
 
     def write(self, module: Json, given: Container[str]) -> list[Assertion]:
-        """Writes the file, and gives the name, the place and whether the design has that name for
-        each bad state property's assertion."""
+        """Writes the AIGER file, and returns the assertion of each property."""
         self.check_reset(self.top, module, self.clock and self.clock[0])
         reset = "" if self.options.multiclock else self.resetting(scripts.LATE)
         clock = ""
@@ -121,8 +121,8 @@ class Design(ReadDesign):
         words = {"top": self.top, "renames": self.renames,
                  "clock": clock, "reset": reset, "by_maps": by_maps, "fewer": fewer}
         words["spare"] = self.spare()
-        # A small design whose runs may be shown is made ready to be simulated in the same run,
-        # if yosys can: another takes longer.
+        # A small design is also prepared for simulation in the same run of yosys, which saves time
+        # if a trace is printed.
         both = scripts.WRITE + "design -reset\n" + scripts.REPLAY
         self.is_replayed = not equal and size <= SMALL and self.is_run(both, words)
         if not self.is_replayed:
@@ -133,11 +133,12 @@ class Design(ReadDesign):
             for name, cell in cells.items()])
 
     def in_order(self, given: Sequence[Assertion]) -> list[Assertion]:
-        """Puts the properties of the file in the order of the design's text, and returns what they
-        stand for."""
-        told = [it._replace(place=self.yosys.told(it.place)) for it in given]
-        # By the number of a property: which one yosys wrote.
-        order = self.order = order_of(told, [plain(os.fsencode(file.path)) for file in self.files])
+        """Sorts the properties of the file by the design's text, and returns their assertions in
+        that order."""
+        readable = [it._replace(place=self.yosys.readable(it.place)) for it in given]
+        paths = [plain(os.fsencode(file.path)) for file in self.files]
+        # `order` has, for each property, its index in the file that yosys wrote.
+        order = self.order = order_of(readable, paths)
         if order != sorted(order):
             path = self.yosys.place("design.aig")
             with open(path, "rb") as file:
@@ -147,42 +148,44 @@ class Design(ReadDesign):
         return [given[i] for i in order]
 
     def check_reset(self, top: str, module: Json, clock: str | None = None) -> None:
-        """Refuses a reset that is no input of one bit, or is the clock."""
+        """Raises Fault if the reset isn't a one-bit input, or is the clock."""
         if self.reset:
             signal = self.reset.signal
             port = module["ports"].get(signal, {"direction": ""})
-            if port["direction"] != "input" or len(port["bits"]) > 1 or signal == clock:
-                raise Fault(f"{top} has no input {signal} of one bit that could be a reset")
+            if port["direction"] != "input" or len(port["bits"]) > 1:
+                raise Fault.of("no_reset", top=top, signal=signal)
+            if signal == clock:
+                raise Fault.of("clock_as_reset", top=top, signal=signal)
 
     @functools.cached_property
     def aliases(self) -> dict[str, list[str]]:
-        """All names that the design has for a signal, by each of them."""
+        """All names of each signal, by each of them."""
         return netlist.aliases(self.top_of("whole.json")[1])
 
     def about(self) -> str:
-        """Returns the line of what is asked about."""
+        """Returns the line that counts the assertions and assumptions."""
         counted = [f"{count} {KINDS[kind]}{'s' * (count != 1)}"
                    for kind, count in self.counts.items()]
         return f"{self.top}: {', '.join(counted)}" + (f", {self.reset}" if self.reset else "")
 
     def named(self) -> list[tuple[str, str]]:
-        """Returns the name and the place of each assertion, in the order of the file's
-        properties."""
-        return [(f"{self.top}.{it.path}" if it.path else "", self.told(it.place))
+        """Returns the name and the source location of each property's assertion."""
+        return [(f"{self.top}.{it.path}" if it.path else "", self.location(it.place))
                 for it in self.assertions]
 
     def assertion(self, number: int) -> tuple[str, str]:
-        """Returns the line of the assertion that a property of the file stands for, and what it is
-        in the design's text."""
+        """Returns a line that names the assertion of a property, and the assertion's text."""
         it = self.assertions[number]
-        own, place = f".{it.path}" if it.path else "", self.told(it.place)
+        own, place = f".{it.path}" if it.path else "", self.location(it.place)
         said = f" ({place})" if place else ""
         return f"{KINDS[self.options.kind]} {self.top}{own}{said}", \
-            self.spelled(self.yosys.told(it.place))
+            self.spelled(self.yosys.readable(it.place))
 
     def spelled(self, place: str) -> str:
-        """Returns the lines of the design's files at a place, as one, if they are known: what is
-        counted in a line are signs without macros."""
+        """Returns the text at a source location as one line, or "" if the location isn't in a file
+        of the design.
+
+        Columns are ignored: yosys counts them in preprocessed text."""
         path, _, lines = place.rpartition(":")
         found = re.fullmatch(r"([0-9]+)\.[0-9]+-([0-9]+)\.[0-9]+", lines)
         data = next((file.data for file in self.files if plain(os.fsencode(file.path)) == path),
@@ -194,12 +197,14 @@ class Design(ReadDesign):
         return " ".join(escaped(line.strip()) for line in own)[:SPELLED]
 
     def run(self, trace: Witness) -> tuple[list[str], str]:
-        """Has yosys run a witness on the design: the names of the assertions that fail in the last
-        step, as yosys prints them, and the dump. In the place of x there is 0."""
+        """Simulates a trace in yosys, with 0 for each `x`.
+
+        Returns the names of the assertions that fail in the last step, and the value change dump.
+        Raises Fault if yosys fails."""
         self.replayed()
         filled = trace.filled()
         lines = [line + "0" for line in [filled.start, *filled.steps]]
-        # Yosys passes over an empty line, and wants a clock.
+        # Yosys ignores an empty line, and needs a clock.
         self.yosys.put("witness.aiw", "\n".join(["1", f"b{trace.bad}", *lines, ".", ""]))
         clock, rising = self.clock or CLOCKED
         printed = self.yosys.run(scripts.SIMULATE,
@@ -208,7 +213,8 @@ class Design(ReadDesign):
         return list(dict.fromkeys(failed)), self.yosys.text("run.vcd")
 
     def is_run(self, script: str, words: Mapping[str, str]) -> bool:
-        """Returns whether yosys runs a script to its end, in time."""
+        """Returns whether yosys completes a script. Raises TranslationTimeout if the time is
+        over."""
         try:
             self.yosys.run(script, **words)
         except TranslationTimeout:
@@ -218,11 +224,11 @@ class Design(ReadDesign):
         return True
 
     def spare(self) -> str:
-        """Returns the line that gives a design without a clock one, which yosys wants."""
+        """Returns the command that adds a clock to a design without one."""
         return "" if self.clock else f"add -input {scripts.SPARE} 1"
 
     def replayed(self) -> None:
-        """Has yosys make the module that it simulates, in which all signals of the design are."""
+        """Prepares the module that yosys simulates, with all signals of the design."""
         if not self.is_replayed:
             self.yosys.run(scripts.REPLAY, top=self.top, renames=self.renames, spare=self.spare())
         paths = paths_of(self.top_of("drawn.json")[1]["netnames"])
@@ -232,7 +238,7 @@ class Design(ReadDesign):
             if it.kind == "wire" and path:
                 it.attributes[HDLNAME] = f'"{path}"'
             elif it.kind == "cell" and it.type == "$ff":
-                # Yosys has no first value for a register of all steps, but for one of a clock.
+                # Yosys initialises only registers that have a clock.
                 it.text = f"$dff {it.name}"
                 it.body[:0] = [Statement("parameter", f"\\CLK_POLARITY 1'{rising:d}"),
                                Statement("connect", f"\\CLK \\{clock}")]
@@ -240,5 +246,5 @@ class Design(ReadDesign):
 
     @functools.cached_property
     def module(self) -> Module:
-        """The module that yosys simulates."""
+        """The netlist of the module that yosys simulates."""
         return Module(self.top_of("replayed.json")[1])

@@ -1,1 +1,1 @@
-"""The engines that look for answers side by side, and the portfolios that run them."""
+"""The engines that look for answers in parallel, and the portfolios that run them."""

@@ -1,14 +1,18 @@
-"""ABC, whose counterexamples become witnesses and whose invariants become certificates: on a file,
-on several of its properties at once, and on files that count rounds of a justice property."""
+"""The engines that call ABC. Its counterexamples become witnesses, and its invariants certificates.
+
+ABC is called on a file, on several of its properties at once, and on circuits that count rounds of
+a justice property."""
 from __future__ import annotations
 
 from collections.abc import Iterable, Sequence
 from typing import TYPE_CHECKING, cast
 
-from aigprove.circuits.aiger import Circuit, Fault, cone
+from aigprove.circuits.aiger import Circuit, Fault
+from aigprove.circuits.gates import cone
 from aigprove.circuits.normalised import NormalisedModel, parted
 from aigprove.circuits.simulation import reached
 from aigprove.circuits.witness import Witness
+from aigprove.data import message
 from aigprove.engines.certificate import Certificate
 from aigprove.engines.job import Answer, Job, Missing, Problem, Safe
 from aigprove.options.options import Options
@@ -21,34 +25,36 @@ if TYPE_CHECKING:
     from aigprove.questions.justice import Justice
 
 ABCS = ["berkeley-abc", "yosys-abc", "abc"]
-# All properties, each for so many thousandths of a second at most; and the first runs to
-# properties, up to so many steps.
+# PDR is asked about all properties, for EACH milliseconds each. BMC looks for the shortest traces
+# to properties, of a number of steps.
 PDR = "pdr -a -x -d -I inv.pla -H {each}"
 BMC = "bmc3 -a -x -F {steps} -T {seconds}"
-# The initial state and the inputs of each step, by the places of properties.
+# The initial state and the inputs of each step, by the position of a property.
 Runs = dict[int, tuple[str, list[str]]]
-# How many rounds are counted, one after the other.
+# The numbers of rounds that are tried, one after the other.
 COUNTS = [1, 2, 4, 8, 16]
 
 
 def path_of_abc(given: str | None) -> str:
-    """Returns the path of ABC that is given, or else the one that is found."""
+    """Returns the path of ABC: the given one, or the first that is found. Raises Missing if there
+    is none."""
     for name in [given] if given else ABCS:
         if program := path_of(name):
             return program
-    raise Missing(f"none of {', '.join(ABCS)} is installed")
+    raise Missing.of("no_abc", names=", ".join(ABCS))
 
 
 def run_abc(program: str, task: Task, folder: Folder, script: Iterable[str]) -> None:
-    """Runs commands of ABC in a folder. ABC has to end with status 0."""
+    """Runs commands of ABC in a folder. Raises Fault unless ABC ends with status 0."""
     words: Words = [program, "-q", "; ".join(script)]
     if status := folder.run(task, words):
-        raise Fault(f"ABC {ending(status)}")
+        raise Fault.of("abc_ended", ending=ending(status))
 
 
 def ask_abc(program: str, task: Task, above: str, model: NormalisedModel,
             command: str) -> tuple[str, str]:
-    """Returns the counterexamples and the invariant that a command finds; either may be empty."""
+    """Returns the counterexamples and the invariant that a command finds for a model; either may be
+    empty."""
     with Folder(above) as folder:
         with folder.make("machine.aig") as out:
             out.write(model.binary())
@@ -57,7 +63,8 @@ def ask_abc(program: str, task: Task, above: str, model: NormalisedModel,
 
 
 class Abc:
-    """A command of ABC on the normalised model of the file, which begins with its name."""
+    """An engine that runs a command of ABC on the normalised model. The command begins with the
+    engine's name."""
 
     command: str
 
@@ -65,7 +72,7 @@ class Abc:
         self.job, self.program = job, path_of_abc(job.options.abc)
 
     def run(self) -> None:
-        """Runs the command, and hands in what it finds."""
+        """Runs the command, and hands in its answer. Raises Fault if the answer is wrong."""
         job = self.job
         job.progress(self.command.partition(" ")[0])
         model, bound = job.problem.normalised, job.bound
@@ -74,38 +81,38 @@ class Abc:
         if found:
             trace = job.reached(*model.run(found))
             if trace is None:
-                raise Fault("its counterexample reaches no bad state")
+                raise Fault.of("false_counterexample")
             job.hand_in_run(trace.text().encode())
         elif invariant:
             made = model.certificate(invariant)
             if made is None:
-                raise Fault("its invariant isn't one of the machine")
+                raise Fault.of("false_invariant")
             Certificate(job, job.solver(), Sealed(made)).run()
 
 
 class Bmc3(Abc):
-    """Bounded model checking, where 0 is no bound."""
+    """Bounded model checking. A bound of 0 steps means no bound."""
 
     command = "bmc3 -F {steps}"
 
 
 class Pdr(Abc):
-    """Property directed reachability, whose invariant becomes a certificate."""
+    """Property directed reachability. Its invariant becomes a certificate."""
 
     command = "pdr -d -I inv.pla"
 
 
 class MultiProperty:
-    """Asks ABC about several properties of a circuit."""
+    """Asks ABC about several properties of a circuit at once."""
 
     def __init__(self, options: Options, task: Task, above: str) -> None:
         self.program, self.task, self.above = path_of_abc(options.abc), task, above
 
     def ask(self, circuit: Circuit, command: str) -> tuple[Runs, Sealed | None]:
-        """Returns the runs and the certificate that a command finds.
+        """Returns the traces and the certificate that a command finds.
 
-        The runs reach properties, by their places, and the certificate, if there is one, is for
-        the others."""
+        The traces reach properties, given by their positions. The certificate, if there is one, is
+        for all others."""
         model = NormalisedModel(circuit, is_apart=True)
         found, invariant = ask_abc(self.program, self.task, self.above, model, command)
         made = model.certificate(invariant) if invariant else None
@@ -114,9 +121,8 @@ class MultiProperty:
 
 
 class Cones:
-    """Circuits that have only some of a circuit's bad state properties.
-
-    They leave out gates and next states that these don't read."""
+    """Circuits with only some of a circuit's bad state properties, without the gates and next
+    values that these don't depend on."""
 
     def __init__(self, circuit: Circuit) -> None:
         self.circuit = circuit
@@ -135,9 +141,9 @@ class Cones:
 
 
 class Counting(Job):
-    """A job of pdr about such a file.
+    """A job for pdr on a circuit that counts rounds.
 
-    A run shows that this number of rounds can end, which says nothing about the property."""
+    A trace only means that this number of rounds can end, which says nothing about the property."""
 
     def __init__(self, job: Job, count: int) -> None:
         source = cast("Justice", job.source).counting(count)
@@ -145,25 +151,33 @@ class Counting(Job):
         self.count, self.is_reached, self.bound = count, False, None
 
     def reached(self, start: str, steps: Sequence[str]) -> Witness | None:
+        """Returns the witness of the first bad state of a trace, found by simulation: aigcheck
+        isn't needed for it."""
         return reached(self.problem.circuit, start, steps)
 
     def progress(self, what: str, count: int | None = None) -> None:
+        """Records which number of rounds is tried."""
         super().progress("rounds", self.count)
 
     def hand_in_run(self, data: bytes) -> None:
+        """Records that this number of rounds can end."""
         self.is_reached = True
 
     def hand_in(self, answer: Answer) -> None:
+        """Hands in that the rounds can't end, without a certificate."""
         assert isinstance(answer, Safe)
-        super().hand_in(answer._replace(certificate="the answer is about rounds"))
+        super().hand_in(answer._replace(certificate=message("about_rounds")))
 
 
 class Rounds:
-    """Asks pdr of ABC whether 1, 2, 4 and so on rounds can end, up to the first that can't."""
+    """Asks pdr whether 1, 2, 4 and so on rounds can end, up to the first number that can't
+    (k-liveness).
+
+    Raises Missing if the query isn't about a justice property."""
 
     def __init__(self, job: Job) -> None:
         if not job.source.counts:
-            raise Missing("it is for justice properties")
+            raise Missing.of("only_justice")
         job.solver()
         Pdr(job)
         self.job = job

@@ -1,9 +1,10 @@
-"""One question of a command line, whose answer is printed."""
+"""Answers one query of a command line, and prints the answer."""
 from __future__ import annotations
 
 from typing import TYPE_CHECKING
 
 from aigprove.circuits.aiger import Fault
+from aigprove.data import message
 from aigprove.engines.job import FAILED, OPEN, SAFE, UNSAFE, Board, Job, Problem
 from aigprove.engines.portfolio import Portfolio, engines_of
 from aigprove.options.options import Options
@@ -17,13 +18,14 @@ if TYPE_CHECKING:
     from aigprove.output.evidence import Evidence
     from aigprove.questions.assumptions import Assumptions, Endless
 
-# Why there is no certificate, by what an answer comes to.
-NO_CERTIFICATE = {UNSAFE: "the answer is a run", **dict.fromkeys([OPEN, FAILED],
-                                                                 "there is no answer")}
+# The message that says why there is no certificate, by what an answer comes to.
+NO_CERTIFICATE = {UNSAFE: "answer_is_run", OPEN: "no_answer", FAILED: "no_answer"}
 
 
 class Inquiry:
-    """A question, the engines that are asked, and what is printed and kept."""
+    """A query: its engines, and what is printed and written.
+
+    Raises Fault if the file is refused."""
 
     def __init__(self, options: Options, scope: Scope, checker: Checker, above: str,
                  source: Target) -> None:
@@ -31,7 +33,7 @@ class Inquiry:
         task = scope.task("main")
         self.checker = checker.of(task)
         self.problem = Problem(options, source, self.checker, above)
-        # A file that isn't taken is refused before all else.
+        # A malformed file is refused first.
         self.header = self.problem.header
         self.board = Board(options.deadline)
         self.job = Job(self.problem, task, self.board)
@@ -44,7 +46,7 @@ class Inquiry:
         self.printer = Printer(self.job, self.evidence)
 
     def run(self) -> int:
-        """Asks the engines, prints the answer, and returns the exit status."""
+        """Runs the engines, prints the answer, and returns the exit status."""
         for line in [] if self.options.quiet else self.source.warnings():
             say(line)
         for line in self.source.about():
@@ -54,7 +56,7 @@ class Inquiry:
             with unlimited():
                 return self.end_open()
         if status != SAFE:
-            self.printer.certify(NO_CERTIFICATE[status])
+            self.printer.certify(message(NO_CERTIFICATE[status]))
         if status == SAFE and self.source.assumed(self.header):
             from aigprove.questions.assumptions import Assumptions
 
@@ -69,9 +71,9 @@ class Inquiry:
         return OPEN
 
     def end_open(self) -> int:
-        """Prints what was shown if there is no answer, and returns the exit status."""
+        """Prints that the query is undecided, and what is known, and returns the exit status."""
         self.printer.print_open()
-        self.printer.certify(NO_CERTIFICATE[OPEN])
+        self.printer.certify(message(NO_CERTIFICATE[OPEN]))
         if self.options.aiger:
             self.printer.print_report(OPEN)
         self.printer.status = OPEN
@@ -94,12 +96,13 @@ class Inquiry:
         return status
 
     def status_of(self, found: Assumptions | Endless) -> int:
-        """Prints whether some run meets what is assumed, by which the answer isn't empty."""
+        """Prints whether the assumptions can be met, and returns the exit status: a proof may be
+        vacuous."""
         try:
             least = max(self.board.steps - 1, self.board.windowed)
             found.look(self.job.solver(), least, self.options.deadline)
         except Fault as why:
-            say(f"assumptions: {why}")
+            say(message("assumptions", why=why))
         except Stopped:
             self.scope.stop()
         if self.evidence:

@@ -1,7 +1,7 @@
-"""What an engine is given, and what it hands in.
+"""What an engine gets and hands in.
 
-It is a job on a problem, with a task for its programs and a board for its answers. Protocols say
-what a portfolio expects of engines, and of what hears answers."""
+An engine has a job on a problem, with a task for its programs and a board for its answers. The
+protocols say what a portfolio expects of engines, and of the receiver of answers."""
 from __future__ import annotations
 
 import contextlib
@@ -17,6 +17,7 @@ from aigprove.circuits.aiger import Circuit, Fault, Header
 from aigprove.circuits.normalised import NormalisedModel
 from aigprove.circuits.simulation import SIMULATED, reached
 from aigprove.circuits.witness import Witness, read_for
+from aigprove.data import message
 from aigprove.engines.rows import ROWS
 from aigprove.options.options import Options
 from aigprove.processes.files import Sealed
@@ -25,22 +26,22 @@ from aigprove.questions.checker import Checker, Claim, header_of
 from aigprove.questions.solver import Solver
 from aigprove.questions.target import Target
 
-# What an answer comes to, which is the exit status.
+# The exit statuses of answers.
 SAFE, UNSAFE, OPEN, FAILED = 20, 10, 0, 1
 
 
 class Engine(Protocol):
-    """What looks for an answer, in a thread of its own."""
+    """Looks for an answer, in a thread of its own."""
 
     def run(self) -> None:
         """Looks for an answer, and hands it in once it is checked."""
 
 
 class Sink(Protocol):
-    """What hears of answers."""
+    """Receives answers."""
 
     def take(self, engine: str, answer: Answer) -> int | None:
-        """Takes an answer of an engine, and returns the exit status if it decides the question."""
+        """Receives an answer of an engine, and returns the exit status if it decides the query."""
 
     def fail(self, engine: str, error: Exception | str) -> None:
         """Reports why an engine gives no answer."""
@@ -50,24 +51,24 @@ class Sink(Protocol):
 
 
 class StepShown(NamedTuple):
-    """Step k is shown, and with it all before."""
+    """All steps up to step `k` are checked."""
 
     k: int
     claim: Claim
 
 
 class Safe(NamedTuple):
-    """No step is bad, as the last claim says; those before lead to it.
+    """No step is bad, as the last claim says. The claims before it are steps of the proof.
 
-    A certificate is made of an inductive machine, or of a window of k + 2 steps, by its k; or it is
-    given why there is none."""
+    `certificate` is an inductive circuit, or the K of k-induction, or says why there is no
+    certificate."""
 
     claims: Sequence[Claim]
     certificate: Sealed | int | str
 
 
 class RunFound(NamedTuple):
-    """Witnesses of a run to bad states."""
+    """Witnesses of one trace to bad states."""
 
     traces: Sequence[Witness]
 
@@ -79,43 +80,43 @@ class Ended(NamedTuple):
 
 
 Answer = StepShown | Safe | RunFound
-# What makes an engine of a job.
+# Creates an engine for a job.
 Make = Callable[["Job"], Engine]
 
 
 class Board:
-    """What is known about a question: the answers that were reported, the steps that were checked,
-    when it was begun, and when it is given up."""
+    """The state of a query: the answers that were handed in, the steps that are checked, its
+    beginning and its deadline."""
 
     def __init__(self, deadline: float, steps: int = 0) -> None:
         self.begun, self.deadline = time.monotonic(), deadline
-        # Steps that were shown, from 0 on, those before a window that was, and proofs of questions
-        # about the steps up to K, by K.
+        # The number of steps that are checked, from 0 on; the number of steps in front of a checked
+        # window; and the proofs of `bounded` queries, by K.
         self.steps, self.windowed = steps, 0
         self.bounded: dict[int, Sealed] = {}
-        # The tasks of the engines that were started, and what they do.
+        # The tasks of the started engines, and what these do.
         self.tasks: list[Task] = []
         self.doing: dict[str, str] = {}
-        # Whether the program of an engine for pairs runs.
+        # Set once the program of an engine for two files runs.
         self.has_begun = threading.Event()
         self.events: queue.Queue[tuple[Task, Answer | Ended] | None] = queue.Queue()
 
     def seconds(self) -> float:
-        """Returns for how long it was asked."""
+        """Returns the seconds since the beginning."""
         return time.monotonic() - self.begun
 
     def left(self) -> float:
-        """Returns how many seconds there are until it is given up."""
+        """Returns the seconds until the deadline."""
         return self.deadline - time.monotonic()
 
     def end_soon(self) -> None:
-        """Notes that all steps up to the bound are shown.
+        """Records that all steps up to the bound are checked.
 
         The other engines then get as much time as has passed, plus one second."""
         self.deadline = min(self.deadline, time.monotonic() + self.seconds() + 1)
 
     def hand_in(self, task: Task, event: Answer | Ended) -> None:
-        """Takes an answer of a task, or that it ended."""
+        """Records an answer of a task, or its end."""
         self.events.put((task, event))
 
     def wake(self) -> None:
@@ -123,58 +124,59 @@ class Board:
         self.events.put(None)
 
     def ended(self, engine: str) -> None:
-        """Forgets what an engine does."""
+        """Removes an engine from what is being done."""
         row = ROWS.get(engine)
         self.doing.pop(row and row.doing or engine, None)
 
 
 class Problem:
-    """A file about which engines are asked, with its circuit, and how that is asked."""
+    """A file that engines check: its circuit, and the options."""
 
     def __init__(self, options: Options, source: Target, checker: Checker, above: str) -> None:
         self.options, self.source, self.checker, self.above = options, source, checker, above
 
     @functools.cached_property
     def machine(self) -> Sealed:
-        """The file that engines are given, whose bad states are those that are asked about."""
+        """The file that engines get. Its bad states are those that are checked."""
         return self.checker.machine(self.source.subject)
 
     @functools.cached_property
     def text(self) -> Sealed:
-        """The text form of that file, which has to have a bad state property."""
+        """The text form of that file. Raises Fault if it is refused, or has no bad state
+        property."""
         try:
             text = self.checker.text(self.machine)
         except Fault as why:
             said = re.sub("^aig(tool|edit): ", "", str(why))
-            raise Fault(f"{self.source.path}: {said}") from None
+            raise Fault.of("of_file", path=self.source.path, why=said) from None
         if header_of(text).bads == 0:
-            raise Fault(f"{self.source.path}: {self.source.empty}")
+            raise Fault.of("of_file", path=self.source.path, why=message(self.source.empty))
         return text
 
     @functools.cached_property
     def header(self) -> Header:
-        """The header of the file."""
+        """The header of that file."""
         return header_of(self.text)
 
     @functools.cached_property
     def circuit(self) -> Circuit:
-        """The circuit of the file."""
+        """The circuit of that file."""
         return self.checker.circuit(self.text, "FILE")
 
     @functools.cached_property
     def normalised(self) -> NormalisedModel:
-        """The circuit as model checkers read it."""
+        """The normalised model of the circuit."""
         return NormalisedModel(self.circuit)
 
     def holds(self, checker: Checker, trace: Witness) -> bool:
-        """Returns whether a run of that file shows what is asked about, as aigcheck says."""
+        """Returns whether aigcheck accepts a trace of that file as a witness."""
         return self.source.holds(checker, self.source.of_file(trace))
 
     def reached(self, checker: Checker, start: str, steps: Sequence[str]) -> Witness | None:
-        """Returns the witness of a run whose last step is bad, as aigcheck finds.
+        """Returns the witness of a trace whose last step is bad, according to aigcheck.
 
-        If a short run isn't one, the first bad step counts, which nobody has checked. The result is
-        None if there is none."""
+        If there is none, and the trace is short, it is cut at its first bad step, which is
+        unchecked. The result is None if no step is bad."""
         for bad in range(len(self.circuit.bads) if steps else 0):
             trace = Witness(bad, start, steps)
             if self.holds(checker, trace):
@@ -184,11 +186,11 @@ class Problem:
 
 
 class Missing(Fault):
-    """Why an engine is passed over."""
+    """The reason why an engine isn't started."""
 
 
 class Job:
-    """An engine's work on a problem."""
+    """The work of an engine on a problem."""
 
     def __init__(self, problem: Problem, task: Task, board: Board) -> None:
         self.problem, self.task, self.board = problem, task, board
@@ -197,36 +199,37 @@ class Job:
         self.checker, self.bound = problem.checker.of(task), problem.options.bound
 
     def solver(self) -> Solver:
-        """Returns the SAT solver."""
+        """Returns the SAT solver. Raises Missing if there is none."""
         solver = self.options.solver
         if not solver.words:
-            raise Missing("cadical is not installed")
+            raise Missing.of("no_cadical")
         return Solver(solver.words, self.checker, self.above, solver.takes_turns)
 
     def reached(self, start: str, steps: Sequence[str]) -> Witness | None:
-        """Returns the witness of a run whose last step is bad, or that has a bad step."""
+        """Returns the witness of a trace, cut at its first bad step if its last step isn't bad, or
+        None."""
         return self.problem.reached(self.checker, start, steps)
 
     def progress(self, what: str, count: int | None = None) -> None:
-        """Notes what the engine does."""
+        """Records what the engine does."""
         self.board.doing[what] = what if count is None else f"{what} {count}"
 
     def step(self, k: int, claim: Claim) -> None:
-        """Hands in that step k was checked, and all before it."""
+        """Hands in that all steps up to step `k` are checked."""
         if k >= self.board.steps:
             self.task.got_further()
         self.hand_in(StepShown(k, claim))
 
     def hand_in(self, answer: Answer) -> None:
-        """Hands in an answer that was checked."""
+        """Hands in a checked answer."""
         self.board.hand_in(self.task, answer)
 
     def answering(self) -> contextlib.AbstractContextManager[None]:
-        """Has the engine's answer checked before others go on."""
+        """Returns a context in which the engine's answer is checked, while others wait."""
         return self.task.answering(self.board.tasks)
 
     def hand_in_run(self, data: bytes) -> None:
-        """Has aigcheck check a run to a bad state, and hands it in."""
+        """Has aigcheck check a witness, and hands it in. Raises Fault if aigcheck refuses it."""
         trace = read_for(data, self.problem.header)
         with self.answering():
             self.source.run(self.checker, self.source.of_file(trace))

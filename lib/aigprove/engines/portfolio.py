@@ -1,21 +1,22 @@
-"""Engines side by side: the first checked answer wins."""
+"""Runs engines in parallel. The first checked answer wins."""
 import queue
 import threading
 from collections.abc import Mapping
 
+from aigprove.data import message
 from aigprove.engines.job import Board, Ended, Engine, Job, Make, Missing, Problem, Sink
 from aigprove.engines.rows import JUSTICE, PAIRS, ROWS, make_of, names_of
 from aigprove.processes.scheduler import Scope, Stopped, Task
 
-# Seconds between two looks at turns, limits and the clock.
+# The seconds between two checks of turns, limits and the deadline.
 TICK = 0.1
-# Later engines begin once one of these has ended, as each program is slower with more beside it, or
-# after so many seconds.
+# Later engines begin once one of these has ended, or after a number of seconds: each program is
+# slower if more run at once.
 BEFORE, HEAD_START = {"registers", "bmc3"}, 0.75
 
 
 def engines_of(problem: Problem) -> dict[str, Make]:
-    """Returns the engines that are asked for, by their names."""
+    """Returns the engines of a query, by their names."""
     options, engines = problem.options, dict[str, Make]()
     if options.certificate or options.run:
         from aigprove.engines.certificate import GivenCertificate, GivenRun
@@ -28,35 +29,35 @@ def engines_of(problem: Problem) -> dict[str, Make]:
 
 
 class Portfolio:
-    """Engines that are asked about one problem, and the answers that they hand in."""
+    """The engines of one problem, and the answers that they hand in."""
 
     def __init__(self, problem: Problem, scope: Scope, board: Board, sink: Sink) -> None:
         self.problem, self.scope, self.board, self.sink = problem, scope, board, sink
-        # How many engines run, and the names of those that failed.
+        # The number of running engines, and the names of those that failed.
         self.left = 0
         self.failed: list[str] = []
-        # Whether later engines may begin.
+        # Set once later engines may begin.
         self.is_free = threading.Event()
 
     def start(self, name: str, make: Make) -> bool:
-        """Starts an engine, and returns whether it was."""
+        """Starts an engine, and returns whether that was possible."""
         task = self.scope.task(name, ROWS[name].share if name in ROWS else 1)
         try:
             engine = make(Job(self.problem, task, self.board))
         except Missing as why:
             self.freed(name)
-            self.fail(name, f"passed over: {why}")
+            self.fail(name, message("passed_over", why=why))
             return False
         self.board.tasks.append(task)
         work = threading.Thread(target=self.work, args=[task, engine], name=name, daemon=True)
         work.start()
         if name in names_of(PAIRS):
-            # Its program runs before others compute something here.
+            # Its program starts before other engines use this process.
             self.board.has_begun.wait(HEAD_START)
         return True
 
     def work(self, task: Task, engine: Engine) -> None:
-        """Runs an engine in its thread. Whatever its program leaves, the other engines go on."""
+        """Runs an engine in its thread. Its errors don't affect other engines."""
         if task.engine in ROWS and ROWS[task.engine].is_later:
             self.is_free.wait(HEAD_START)
         try:
@@ -69,19 +70,19 @@ class Portfolio:
         self.freed(task.engine)
 
     def freed(self, name: str) -> None:
-        """Lets later engines begin, once one before them ended."""
+        """Lets later engines begin, if this engine is one of those that they wait for."""
         if name in BEFORE:
             self.is_free.set()
 
     def fail(self, name: str, error: Exception | str) -> None:
-        """Notes that an engine gives no answer, and why."""
+        """Records and reports why an engine has no answer."""
         self.failed.append(name)
         self.sink.fail(name, error)
 
     def take(self, seconds: float) -> int | None:
-        """Takes the next of what was handed in, if it comes within so many seconds.
+        """Processes the next event, if there is one within a number of seconds.
 
-        Returns the exit status if that decides the question."""
+        Returns the exit status if it decides the query."""
         try:
             handed_in = self.board.events.get(timeout=seconds)
         except queue.Empty:
@@ -98,7 +99,7 @@ class Portfolio:
         return None
 
     def run(self, engines: Mapping[str, Make]) -> int | None:
-        """Runs engines until there is an answer, or none can come any more.
+        """Runs engines until there is an answer, or all have ended, or the deadline.
 
         Returns the exit status of the answer, or None."""
         if "registers" not in engines:
@@ -109,7 +110,7 @@ class Portfolio:
             status = self.take(TICK)
             self.scope.scheduler.look(TICK)
             self.sink.show_progress()
-        # What was handed in by then counts.
+        # Answers that were handed in by then count.
         for _ in range(self.board.events.qsize()):
             status = self.take(0) if status is None else status
         return status

@@ -1,4 +1,4 @@
-"""The engines, a row each: a new one is its module and its row here."""
+"""The table of the engines. A new engine is a module and a row here."""
 from __future__ import annotations
 
 import importlib
@@ -7,16 +7,17 @@ from typing import TYPE_CHECKING, NamedTuple, cast
 if TYPE_CHECKING:
     from aigprove.engines.job import Make
 
-# What engines are asked about: any file, two that are compared, and justice properties.
+# The kinds of queries: about any file, about two files, and about justice properties.
 FILES, PAIRS, JUSTICE = "files", "pairs", "justice"
 
 
 class Row(NamedTuple):
-    """An engine: where its class is in this package, and what it is asked about.
+    """An engine: where its class is in this package, and the kind of queries that it answers.
 
-    Also how many times as long as others its programs may run, what it does where that isn't
-    called like the engine, whether it begins once one of those before it ended, whether its runs
-    are the shortest, and another engine without which it isn't asked on another machine."""
+    `share` is how many times as long as others its programs may run, and `doing` what it reports to
+    do, if that isn't its name. `is_later` means that it begins once one of the first engines has
+    ended, and `is_shortest` that its traces are shortest. `beside` is an engine together with which
+    it runs on another machine."""
 
     place: str
     of: str = FILES
@@ -27,8 +28,8 @@ class Row(NamedTuple):
     beside: str = ""
 
 
-# Those come first whose answers may come at once. Most designs are decided by pdr, most pairs of
-# files by the engines for these.
+# The engines whose answers may come immediately come first. Most designs are decided by pdr, and
+# most pairs of files by the engines for these.
 ROWS = {
     "bmc3": Row("engines.abc.Bmc3", is_shortest=True),
     "pdr": Row("engines.abc.Pdr", share=2, is_later=True),
@@ -43,17 +44,17 @@ ROWS = {
 
 
 def names_of(kind: str) -> list[str]:
-    """Returns the names of the engines that are asked about this kind."""
+    """Returns the names of the engines for a kind of queries."""
     return [name for name, row in ROWS.items() if row.of == kind]
 
 
 def tasks() -> list[list[str]]:
-    """Returns the engines for files that are asked by one command on another machine."""
+    """Returns the groups of engines that one command runs on another machine."""
     return [[name, *(other for other in names_of(FILES) if ROWS[other].beside == name)]
             for name in names_of(FILES) if not ROWS[name].beside]
 
 
 def make_of(name: str) -> Make:
-    """Returns the class of an engine, whose module is imported once it is asked."""
+    """Returns the class of an engine. Its module is imported now."""
     module, _, kind = f"aigprove.{ROWS[name].place}".rpartition(".")
     return cast("Make", getattr(importlib.import_module(module), kind))

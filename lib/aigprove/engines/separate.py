@@ -1,6 +1,7 @@
-"""The properties of a file, each of which is asked about alone, while there is time: for two
-seconds each, then for eight, and so on. A portfolio about one prints nothing, and what is shown
-goes to its answer."""
+"""Checks the properties of a file one by one, while there is time: for two seconds each, then for
+eight, and so on.
+
+The portfolio of a property prints nothing. Its results go into the property's answer."""
 from __future__ import annotations
 
 import math
@@ -10,6 +11,7 @@ from collections.abc import Iterable, Sequence
 
 from aigprove.circuits.aiger import Circuit
 from aigprove.circuits.witness import Witness
+from aigprove.data import message
 from aigprove.engines.job import SAFE, UNSAFE, Answer, Board, Problem, RunFound, StepShown
 from aigprove.engines.portfolio import Portfolio, engines_of
 from aigprove.options.options import Options
@@ -21,14 +23,13 @@ from aigprove.questions.checker import Checker, Claim
 from aigprove.questions.properties import Properties
 from aigprove.questions.target import Target
 
-# Seconds of the first time that each is asked about, and by how much that grows.
+# The seconds for each property in the first round, and the factor for each further round.
 ALONE, MORE = 2, 4
 
 
 class PropertyPortfolio:
-    """Engines that are asked about the property of some answers, or about all properties.
-
-    It is a sink that keeps what they answer, and what shows it."""
+    """The engines for one property, or for all, and the sink that records their answers and
+    evidence."""
 
     def __init__(self, owner: SeparateProperties, source: Target,
                  answers: Sequence[PropertyAnswer], circuit: Circuit | None = None,
@@ -44,7 +45,8 @@ class PropertyPortfolio:
         self.portfolio = Portfolio(self.problem, self.scope, self.board, self)
 
     def ask(self, seconds: float) -> bool:
-        """Runs its engines for so many seconds at most, and returns whether they ended before."""
+        """Runs the engines for at most a number of seconds, and returns whether all have ended
+        before that."""
         self.board.deadline = min(self.owner.deadline, time.monotonic() + seconds)
         self.portfolio.run(engines_of(self.problem))
         is_over = not self.portfolio.left
@@ -52,12 +54,14 @@ class PropertyPortfolio:
         return is_over
 
     def end_all(self) -> None:
-        """Ends what it runs."""
+        """Ends its programs."""
         self.board.deadline = 0
         self.scope.stop()
         self.board.wake()
 
     def take(self, engine: str, answer: Answer) -> int | None:
+        """Records an answer and its evidence, and returns the exit status if it decides the
+        query."""
         if isinstance(answer, StepShown):
             self.take_step(answer)
             return None
@@ -76,7 +80,7 @@ class PropertyPortfolio:
         return UNSAFE if trace else SAFE
 
     def take_step(self, answer: StepShown) -> None:
-        """Takes that steps are shown, unless another engine showed that."""
+        """Records that steps are checked, unless another engine has checked them already."""
         if answer.k >= self.board.steps:
             self.keep(answer.claim)
             self.board.steps = answer.k + 1
@@ -84,13 +88,14 @@ class PropertyPortfolio:
             own.steps = max(own.steps, self.board.steps)
 
     def fail(self, engine: str, error: Exception | str) -> None:
+        """Reports why an engine has no answer."""
         self.owner.fail(engine, error)
 
     def show_progress(self) -> None:
         """Shows nothing: the table does."""
 
     def keep(self, claim: Claim) -> None:
-        """Keeps what shows a claim, in a folder that is made once there is something to keep."""
+        """Writes a claim into an evidence folder, which is created with the first claim."""
         folder, owner = self.owner.folder, self.owner
         if folder and self.evidence is None:
             name = folder.new(self.problem.source.stem)
@@ -102,21 +107,20 @@ class PropertyPortfolio:
             self.evidence.shows(claim)
 
     def close(self) -> None:
-        """Ends the script of what it kept."""
+        """Completes its evidence folder."""
         if self.evidence:
             self.evidence.end()
             self.evidence = None
 
 
 def quiet(options: Options, engines: Iterable[str]) -> Options:
-    """Returns the options of a portfolio that prints and writes nothing, and has these engines."""
+    """Returns the options of a portfolio with these engines that prints and writes nothing."""
     return options._replace(engines=tuple(engines), certificate=None, run=None)
 
 
 class SeparateProperties:
-    """The properties of one file, and the engines that are asked about them.
-
-    What is kept goes into the folder, if there is one."""
+    """The properties of one file, and their engines. `folder` is the evidence folder, if there is
+    one."""
 
     def __init__(self, options: Options, checker: Checker, above: str,
                  source: Properties, folder: EvidenceFolder | None) -> None:
@@ -125,19 +129,19 @@ class SeparateProperties:
         self.scheduler: Scheduler = checker.task.scheduler
         self.begun, self.deadline, self.lock = time.monotonic(), options.deadline, threading.RLock()
         self.answers: list[PropertyAnswer] = source.answers()
-        # The errors that were printed; what is asked about properties now, by their numbers; and
-        # those of which engines have nothing more to say.
+        # The errors that were printed; the running portfolios, by the numbers of properties; and
+        # the properties for which the engines have no answer.
         self.said: set[tuple[str, str]] = set()
         self.asked: dict[int, PropertyPortfolio] = {}
         self.over: set[int] = set()
         self.sources = [source.one(answer.number, ABOVE) for answer in self.answers]
 
     def open(self) -> list[int]:
-        """Returns the numbers of the properties that have no answer."""
+        """Returns the numbers of the undecided properties."""
         return [answer.number for answer in self.answers if not answer.is_answered]
 
     def fail(self, engine: str, error: Exception | str) -> None:
-        """Prints once why an engine gave no answer."""
+        """Prints why an engine has no answer, once for each reason."""
         why = error if isinstance(error, str) else reason(error)
         with self.lock:
             is_new = (engine, why) not in self.said
@@ -145,15 +149,15 @@ class SeparateProperties:
         if is_new:
             show_progress()
             if isinstance(error, str) or is_fault(error):
-                say(f"{engine}: {why}")
+                say(message("engine", engine=engine, why=why))
             else:
                 report(error, self.options.verbose)
 
     def decide(self, answers: Sequence[PropertyAnswer], engine: str,
                trace: Witness | None) -> float:
-        """Takes that none of some properties is reached, or a run to one.
+        """Records a trace to one of the properties or, if it is None, that none of them is reached.
 
-        Returns after how many seconds that is."""
+        Returns the seconds since the beginning."""
         with self.lock:
             seconds = time.monotonic() - self.begun
             for answer in answers:
@@ -164,16 +168,16 @@ class SeparateProperties:
         return seconds
 
     def portfolio(self, number: int, engines: Iterable[str] = ()) -> PropertyPortfolio:
-        """Returns a portfolio about one property."""
+        """Returns a portfolio for one property."""
         answers = [self.answers[number]]
         return PropertyPortfolio(self, self.sources[number], answers, self.circuit(number), engines)
 
     def circuit(self, number: int) -> Circuit | None:
-        """Returns the circuit that has only one property, if that circuit is known."""
+        """Returns the circuit with only this property, if it is known."""
         return None
 
     def ask_alone(self, number: int, seconds: float) -> None:
-        """Asks about a property for so many seconds, if there is time."""
+        """Checks one property for a number of seconds, if there is time."""
         if time.monotonic() >= self.deadline:
             return
         answer = self.answers[number]
@@ -189,27 +193,28 @@ class SeparateProperties:
             portfolio.close()
 
     def round(self, numbers: Sequence[int], seconds: float) -> None:
-        """Asks about properties, at most as many at once as programs may run."""
+        """Checks properties, `jobs` of them at a time, for a number of seconds each."""
         for_each(numbers, self.options.jobs, lambda number: self.ask_alone(number, seconds))
 
     def end_all(self) -> None:
-        """Ends all that is asked."""
+        """Ends all portfolios."""
         with self.lock:
             for portfolio in self.asked.values():
                 portfolio.end_all()
 
     def stop(self) -> None:
-        """Ends all that is asked, for good."""
+        """Ends all portfolios; none is started any more."""
         self.deadline = 0
         self.end_all()
 
     def run(self) -> None:
-        """Asks about all properties that have no answer yet."""
+        """Checks all undecided properties, with more time in each round."""
         seconds: float = ALONE
         while (numbers := self.left()) and time.monotonic() < self.deadline:
             self.round(numbers, math.inf if len(numbers) <= self.options.jobs else seconds)
             seconds *= MORE
 
     def left(self) -> list[int]:
-        """Returns the numbers of the properties of which engines may have more to say."""
+        """Returns the numbers of the undecided properties for which the engines may still have an
+        answer."""
         return [number for number in self.open() if number not in self.over]

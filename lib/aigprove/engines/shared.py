@@ -1,8 +1,7 @@
-"""Each property of a file: what engines show of all at once, and then of each alone.
+"""Checks the properties of a file: first all together, then each of the others by itself.
 
-ABC's pdr is asked about all properties that are open, each for a second at most, then for four, and
-so on; beside its first run the other engines are asked about the whole file. What is left then is
-asked about alone."""
+ABC's pdr checks all undecided properties, for a second each, then for four, and so on. During its
+first run, the other engines check the whole file."""
 import math
 import threading
 import time
@@ -10,6 +9,7 @@ from collections.abc import Iterable, Sequence
 
 from aigprove.circuits.aiger import Circuit, Fault
 from aigprove.circuits.witness import Witness
+from aigprove.data import message
 from aigprove.engines.abc import BMC, PDR, Cones, MultiProperty
 from aigprove.engines.certificate import Certificate
 from aigprove.engines.job import Job, Missing, RunFound
@@ -23,48 +23,48 @@ from aigprove.processes.scheduler import Scope, Stopped, for_each
 from aigprove.questions.checker import Checker
 from aigprove.questions.properties import Properties
 
-# Seconds of the first run of pdr for each property, of the time that all are asked about at once,
-# and of the search for shorter runs.
+# The seconds of pdr's first run for each property, of checking the whole file, and of the search
+# for shorter traces.
 PASS, WHOLE, SHORTER = 1, 2, 2
-# Engines that aren't asked about the whole file beside pdr.
+# Engines that don't check the whole file besides pdr.
 OF_ABC = {"pdr", "bmc3"}
 
 
 class SharedProperties(SeparateProperties):
-    """Properties of one circuit, which are asked about at once, before each is alone."""
+    """Properties of one circuit, which are checked together before each is checked by itself."""
 
     def __init__(self, options: Options, checker: Checker, above: str, source: Properties,
                  folder: EvidenceFolder | None) -> None:
         super().__init__(options, checker, above, source, folder)
         self.whole = self.of_all([name for name in options.engines if name not in OF_ABC])
         self.cones = Cones(self.whole.problem.circuit)
-        # Whether ABC's first run is over, and whether what it left is being checked.
+        # Whether ABC's first run is over, and whether its answers are being checked.
         self.first, self.is_checking = threading.Event(), False
         self.scope = Scope(self.scheduler)
         self.pdr = self.scope.task("pdr", ROWS["pdr"].share)
-        # The numbers of the properties of which shorter runs were looked for, which is done by one
-        # thread at a time.
+        # The properties for which shorter traces were looked for. One thread at a time does that.
         self.looked: set[int] = set()
         self.shortening = threading.Lock()
 
     def circuit(self, number: int) -> Circuit:
+        """Returns the circuit with only this property."""
         return self.cones.of([number])
 
     def of_all(self, engines: Iterable[str] = ()) -> PropertyPortfolio:
-        """Returns a portfolio about all properties."""
+        """Returns a portfolio for all properties."""
         source = self.source.placed(ABOVE)
         return PropertyPortfolio(self, source, self.answers, None, engines)
 
     def abc(self) -> MultiProperty:
-        """Returns ABC, which is asked about several properties."""
+        """Returns ABC, for several properties at once."""
         return MultiProperty(self.options, self.pdr, self.above)
 
     def share(self) -> None:
-        """Asks ABC about all open properties, whatever it leaves."""
+        """Has ABC check all undecided properties."""
         try:
             self.ask_all(self.abc())
         except Missing as why:
-            self.fail("pdr", f"passed over: {why}")
+            self.fail("pdr", message("passed_over", why=why))
         except Exception as error:
             self.fail_abc("pdr", error)
         finally:
@@ -72,12 +72,12 @@ class SharedProperties(SeparateProperties):
             self.first.set()
 
     def fail_abc(self, engine: str, error: Exception) -> None:
-        """Prints why ABC gave no answer, unless it was ended. The other engines go on."""
+        """Prints why ABC has no answer, unless it was stopped."""
         if not isinstance(error, Stopped) and not self.scope.is_stopped():
             self.fail(engine, error)
 
     def ask_all(self, abc: MultiProperty) -> None:
-        """Asks about all open properties, with more time while that gets further."""
+        """Has ABC check all undecided properties, with more time while it makes progress."""
         seconds = PASS
         while (numbers := self.open()) and time.monotonic() < self.deadline:
             begun = time.monotonic()
@@ -96,7 +96,8 @@ class SharedProperties(SeparateProperties):
             seconds *= MORE
 
     def shorten(self, abc: MultiProperty) -> None:
-        """Has shorter runs checked to properties whose known run may be longer, each once."""
+        """Looks for shorter traces to properties whose trace may not be the shortest, once for
+        each."""
         with self.shortening:
             exact = {name for name, row in ROWS.items() if row.is_shortest}
             inexact = [it for it in self.answers if it.trace and it.engine not in exact
@@ -115,7 +116,7 @@ class SharedProperties(SeparateProperties):
                 for_each(found, self.options.jobs, self.take_run)
 
     def settle(self) -> None:
-        """Has shorter runs checked for properties whose engines only found longer ones."""
+        """Looks for shorter traces, and reports errors."""
         try:
             self.shorten(self.abc())
         except Missing:
@@ -124,23 +125,24 @@ class SharedProperties(SeparateProperties):
             self.fail_abc("bmc3", error)
 
     def round(self, numbers: Sequence[int], seconds: float) -> None:
+        """Checks properties, and then looks for shorter traces."""
         super().round(numbers, seconds)
         self.settle()
 
     def take_run(self, item: tuple[int, tuple[str, list[str]], str]) -> None:
-        """Has a run that a command of ABC found to a property checked."""
+        """Has a trace to a property checked that a command of ABC found. Raises Fault if it is
+        wrong."""
         number, (start, steps), name = item
         portfolio = self.portfolio(number)
         trace, checker = Witness(0, start, steps), self.checker.of(self.pdr)
         if not steps or not portfolio.problem.holds(checker, trace):
-            raise Fault("its counterexample reaches no bad state")
+            raise Fault.of("false_counterexample")
         portfolio.take(name, RunFound([trace]))
         portfolio.close()
 
     def take_certificate(self, certificate: Sealed) -> None:
-        """Has a certificate checked for all properties at once, if all are open.
-
-        Otherwise it is checked for each that is."""
+        """Has a certificate checked for all properties together, if all are undecided, and
+        otherwise for each."""
         numbers = self.open()
         is_whole = len(numbers) == len(self.answers)
         if not is_whole or not self.is_certified(self.of_all(), certificate):
@@ -148,7 +150,7 @@ class SharedProperties(SeparateProperties):
                      lambda number: self.is_certified(self.portfolio(number), certificate))
 
     def is_certified(self, portfolio: PropertyPortfolio, certificate: Sealed) -> bool:
-        """Returns whether a certificate shows what is asked."""
+        """Returns whether a certificate proves the properties of a portfolio."""
         job = Job(portfolio.problem, self.pdr, portfolio.board)
         try:
             Certificate(job, job.solver(), certificate).run()
@@ -159,18 +161,20 @@ class SharedProperties(SeparateProperties):
         return True
 
     def together(self) -> None:
-        """Asks the others about the whole file, as long as no property is reached."""
+        """Has the other engines check the whole file, as long as no property is reached."""
         self.whole.ask(WHOLE)
         self.whole.close()
         if not self.open():
             self.first.set()
 
     def end_all(self) -> None:
+        """Ends all portfolios, and ABC."""
         self.whole.end_all()
         super().end_all()
         self.scope.stop()
 
     def run(self) -> None:
+        """Checks all undecided properties."""
         calls = [self.share] * ("pdr" in self.options.engines)
         is_new = not any(answer.is_answered or answer.steps for answer in self.answers)
         calls += [self.together] * (is_new and bool(self.whole.problem.options.engines))
@@ -187,7 +191,8 @@ class SharedProperties(SeparateProperties):
             thread.join()
 
     def wait_for_first(self, until: float) -> None:
-        """Waits for ABC's first run; what it found is checked before more is asked."""
+        """Waits for ABC's first run, until a point in time. If its answers are being checked by
+        then, it waits for these."""
         while not self.first.wait(TICK) and time.monotonic() < self.deadline:
             if time.monotonic() >= until and not self.is_checking:
                 return

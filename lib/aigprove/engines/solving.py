@@ -1,24 +1,24 @@
-"""Engines that ask a SAT solver about the file."""
+"""The engines that ask a SAT solver about the file."""
 import collections
 import itertools
 import time
 from collections.abc import Iterator
 
 from aigprove.circuits.witness import read_for
+from aigprove.data import message
 from aigprove.engines.job import Job, Safe
 from aigprove.processes.files import Sealed
 from aigprove.processes.groups import BackgroundCall
 from aigprove.questions.checker import PAIRS, Claim, Question, Subject
 
-# How many proofs are checked at once, beside the next question.
+# The number of proofs that are checked while the next query is solved.
 CHECKS = 2
-# Seconds within which a question about the steps up to K has an answer for the next to be of four
-# times as many.
+# If a query about the steps up to K takes fewer seconds, the next is about four times as many.
 QUICK = 1
 
 
 def powers(bound: int | None) -> Iterator[int]:
-    """Returns 0, 1, 2, 4 and so on, up to the bound."""
+    """Yields 0, 1, 2, 4 and so on, up to the bound."""
     every = itertools.chain([0], (1 << i for i in itertools.count()))
     return itertools.takewhile(lambda k: bound is None or k <= bound, every)
 
@@ -31,22 +31,21 @@ class Asking:
         self.source, self.board, self.bound = job.source, job.board, job.bound
 
     def ask(self, question: Question) -> tuple[bool, Sealed]:
-        """Returns whether a question has a solution, and its evidence."""
+        """Returns whether a query has a solution, and the solution or the proof, unchecked."""
         return self.solver.ask(question, self.source.subject)
 
     def witness(self, question: Question, solution: Sealed) -> bytes:
-        """Returns the witness that a solution is."""
+        """Returns the witness that a solution describes."""
         return self.checker.witness(Subject(self.job.problem.machine), question, solution)
 
 
 class Steps(Asking):
-    """Asks about step 0, 1 and so on, up to the bound.
-
-    While proofs are checked the next question is asked."""
+    """Asks about step 0, 1 and so on, up to the bound. Proofs are checked while the next query is
+    solved."""
 
     def run(self) -> None:
         """Asks about one step after the other."""
-        # Steps that unit propagation is tried on, and claims that are being checked.
+        # The steps for which unit propagation is tried, and the claims that are being checked.
         self.tried: dict[int, BackgroundCall[bool]] = {}
         self.checking = collections.deque[tuple[int, Claim, BackgroundCall[None]]]()
         propagates = False
@@ -61,18 +60,19 @@ class Steps(Asking):
         self.board.end_soon()
 
     def steps(self) -> Iterator[int]:
-        """Yields each step that no engine has shown yet, in order, up to the bound."""
+        """Yields each step that isn't checked yet, in order, up to the bound."""
         k = 0
         while self.bound is None or k <= self.bound:
             yield k
             k = max(k + 1, self.board.steps)
 
     def propagation(self, k: int) -> Claim:
-        """Returns that unit propagation finds that no bad state is reached at step k."""
+        """Returns the claim that unit propagation proves that no bad state is reached at step
+        `k`."""
         return self.source.unsolvable(Question("query", k), self.checker.empty_clause)
 
     def propagates(self, k: int, ahead: int) -> bool:
-        """Returns whether unit propagation finds that no bad state is reached at step k.
+        """Returns whether unit propagation proves that no bad state is reached at step `k`.
 
         Meanwhile, a number of further steps are tried."""
         for step in range(k, k + ahead + 1):
@@ -87,7 +87,7 @@ class Steps(Asking):
         return True
 
     def reaches(self, question: Question) -> bool:
-        """Returns whether a bad state is reached at a step. If it is, the run is reported.
+        """Returns whether a bad state is reached, and hands in the trace if it is.
 
         Otherwise the check of the solver's proof begins."""
         has_solution, given = self.ask(question)
@@ -102,7 +102,7 @@ class Steps(Asking):
         return True
 
     def finish(self, left: int = 0) -> None:
-        """Waits for all checks except a number of the last, and reports what they show."""
+        """Waits for all checks except the last `left`, and hands in their steps."""
         while len(self.checking) > left:
             k, claim, check = self.checking.popleft()
             check.result()
@@ -110,11 +110,11 @@ class Steps(Asking):
 
 
 class Bounded(Asking):
-    """Asks one question about all steps up to K, for K = 1, 4, 16 and so on, and the bound.
+    """Asks one query about all steps up to K, for K = 1, 4, 16 and so on, and the bound.
 
-    K is only twice the last after one that took long. A run that is found need not be the
-    shortest. So the solver is asked for the least step: whether it is the one found, if steps
-    were asked about in turn, and otherwise by bisection."""
+    After a slow query, K is only doubled. The trace that is found may not be the shortest. So the
+    solver is asked for the first bad step: whether it is the one that was found, if steps were
+    asked about in turn, and otherwise by bisection."""
 
     def run(self) -> None:
         """Asks about more and more steps."""
@@ -127,7 +127,7 @@ class Bounded(Asking):
         self.board.end_soon()
 
     def steps(self) -> Iterator[int]:
-        """Yields the numbers of steps."""
+        """Yields the values of K."""
         k = 1
         while self.bound is None or k < self.bound:
             begun = time.monotonic()
@@ -139,9 +139,9 @@ class Bounded(Asking):
         yield self.bound
 
     def reaches(self, k: int) -> bytes | None:
-        """Returns the witness of a run to a bad state up to step k, if there is one.
+        """Returns the witness of a trace to a bad state up to step `k`, or None.
 
-        Otherwise the proof that there is none is checked and reported."""
+        If there is none, the proof is checked, and the steps are handed in."""
         self.job.progress("steps up to", k)
         question = Question("bounded", k)
         has_solution, given = self.ask(question)
@@ -154,9 +154,9 @@ class Bounded(Asking):
         return None
 
     def least(self, shown: int, run: bytes) -> bytes:
-        """Returns the witness of a run to the first step with a bad state.
+        """Returns the witness of a trace to the first bad step.
 
-        That step is after a step that was checked, and not after this run's last."""
+        That step is after the step `shown`, and at most the last one of `run`."""
         while (last := self.last(run)) > shown + 1:
             middle = last - 1 if self.solver.takes_turns else (shown + last) // 2
             found = self.reaches(middle)
@@ -164,15 +164,15 @@ class Bounded(Asking):
         return run
 
     def last(self, run: bytes) -> int:
-        """Returns the last step of a run."""
+        """Returns the last step of a witness."""
         return len(read_for(run, self.job.problem.header).steps) - 1
 
 
 class Windows(Asking):
-    """Asks about windows of K + 2 steps, where K is 0 or a power of two (k-induction).
+    """Asks about k-induction steps of K + 2 time steps, where K is 0 or a power of two.
 
-    First all are asked about, and then those on which no state comes twice. Once one is shown, it
-    asks about the steps up to K, unless another engine did."""
+    First it asks about all paths, and then only about simple paths. Once one is proved, it asks
+    about the steps up to K, unless another engine has checked them."""
 
     def run(self) -> None:
         """Asks about longer and longer windows."""
@@ -188,9 +188,8 @@ class Windows(Asking):
                     return
 
     def finish(self, window: Question, claim: Claim, step: Sealed) -> None:
-        """Checks the steps before a window, and reports what follows.
-
-        If a run reaches a bad state in them, that is handed in."""
+        """Checks the steps in front of a window, and hands in the answer, or the trace if these
+        reach a bad state."""
         question = Question("bounded", window.k)
         base = self.board.bounded.get(window.k)
         if base is None:
@@ -201,11 +200,11 @@ class Windows(Asking):
         shown = self.source.proved(question, base, window, step)
         self.checker.check(shown)
         self.board.windowed = window.k + 1
-        no_certificate = "the answer is about runs on which no state comes twice"
-        self.job.hand_in(Safe([claim, shown], no_certificate if window.form else window.k))
+        certificate: str | int = message("about_paths") if window.form else window.k
+        self.job.hand_in(Safe([claim, shown], certificate))
 
     def forms(self, k: int) -> list[tuple[str, ...]]:
-        """Returns the options of the windows that are asked about."""
+        """Returns the options of the window queries for `k`."""
         latches = self.job.problem.header.latches
         is_small = latches and latches * (k + 2) * (k + 2) <= PAIRS
         return [(), ("distinct",)] if is_small else [()]

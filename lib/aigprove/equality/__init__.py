@@ -1,2 +1,2 @@
-"""Comparing two files: their miter, how their signals are matched, and finding nodes that are
-always equal."""
+"""Compares two files: builds their miter, matches their signals, and finds nodes that are always
+equal."""

@@ -1,6 +1,7 @@
-"""Registers that correspond: a program that guesses, by names and by random runs, which latches,
-and other nodes, of a circuit of two files are always equal, or each other's inverse, and prints a
-certificate that says so. Nothing here is believed."""
+"""Guesses which latches and other nodes of a miter are always equal, or each other's inverse, by
+names and random simulation, and prints a certificate that says so.
+
+This is a program of its own. aigcheck checks the certificate."""
 import copy
 import gc
 import itertools
@@ -9,49 +10,44 @@ import os
 import random
 import sys
 from collections.abc import Iterable, Iterator, Mapping, Sequence
-from typing import Any, Protocol
+from typing import Any
 
-from aigprove.circuits.aiger import Circuit, Fault, Gates, Lines, text_form
+from aigprove.circuits.aiger import Circuit, Fault, Lines, text_form
+from aigprove.circuits.gates import Gates
 from aigprove.equality.incremental import IncrementalQueries, Pair
 from aigprove.equality.merged_nodes import MergedNodes, Pairs, ordered
 from aigprove.equality.nodes import Classes, Different, Nodes
 from aigprove.processes.scheduler import Scheduler, Scope
 from aigprove.questions.solver import Undecided
 
-# How aigedit begins the names of latches of the other file.
+# The prefix that aigedit gives to the names of the second file's latches.
 OTHER = b"other."
-# How many seconds of cadical's are few: so many, and one for so many gates; and how many conflicts,
-# if there are no more gates than these: of more it takes long to look for nodes inside that are
-# equal.
+# The limits of quick calls of cadical: LEAST seconds, and one more for QUICK gates; and FEW
+# conflicts, unless there are more than MANY gates, because in these the search for equal inner
+# nodes takes long as well.
 LEAST, QUICK, FEW, MANY = 1, 1000, 300, 20000
-# For how many steps nodes are looked at ahead of those that there are, at first and then.
+# The numbers of further steps whose nodes are included, one after the other.
 AHEAD = [2, 6]
 
 
-class Guess(Protocol):
-    """Classes of nodes that may be equal."""
-
-    nodes: Nodes
-
-    def pairs(self) -> list[Pair]:
-        """Returns pairs of nodes that a step keeps equal."""
-
-
 def partners(circuit: Circuit, count: int, others: int,
-             alike: Mapping[int, int]) -> dict[int, int | None]:
-    """Returns, of two files with so many latches, the latch of the second, by its place, that is to
-    be a latch of the first: one that starts like it, or has the same name, or else is at the same
-    place."""
+             equal_starts: Mapping[int, int]) -> dict[int, int | None]:
+    """Returns the latch of the second file for each latch of the first, by positions; None if it
+    has none.
+
+    `count` and `others` are the files' numbers of latches. The partner has an equal initial value
+    (`equal_starts`), the same name, or the same position."""
     names = {circuit.names.get(("l", i)): i for i in range(len(circuit.latches))}
     named = {i: names.get(OTHER + circuit.names[("l", i)])
              for i in range(count) if ("l", i) in circuit.names}
-    starting = {partner: place for place, partner in alike.items()}
+    starting = {partner: place for place, partner in equal_starts.items()}
     return {i: starting.get(i) or named.get(i) or (i + count if others == count else None)
             for i in range(count)}
 
 
 def paired(classes: Classes, other: Mapping[int, int]) -> Classes:
-    """Returns classes of which pairs of partners, by their literals, are apart from all else."""
+    """Returns classes in which partners form classes of two, separate from all other members.
+    `other` is each literal's partner."""
     made = copy.copy(classes)
     made.rows = []
     for own in classes.rows:
@@ -64,14 +60,16 @@ def paired(classes: Classes, other: Mapping[int, int]) -> Classes:
 
 
 class States:
-    """Classes of latches that a step keeps."""
+    """Classes of latches that are to be inductive."""
 
     def __init__(self, classes: Classes, solver: IncrementalQueries) -> None:
         self.classes, self.nodes, self.solver = classes, classes.nodes, solver
 
     def pairs(self) -> list[Pair]:
-        """Returns all pairs of latches, by which a step was seen to keep them and nothing bad to be
-        there."""
+        """Returns the pairs of equal latches, once the solver finds them inductive, and no bad
+        state in the states where they are equal.
+
+        Raises Different if a bad state is found."""
         found = None
         while found is None:
             self.classes.settle()
@@ -79,14 +77,15 @@ class States:
         return found
 
     def kept(self) -> list[Pair] | None:
-        """Returns these pairs; None if classes were split."""
+        """Returns the pairs if they are inductive, and None after splitting a class."""
         classes, size, states = self.classes, self.classes.size(), self.classes.pairs()
         nodes, _ = self.nodes.merged(classes.merged(self.nodes.leaves(), 1))
         facts = [(literal, 1) for literal in nodes.constraints]
         asked = [(nodes.next(left), nodes.next(right))
                  for left, right in states] + [(bad, 0) for bad in nodes.bads]
         while classes.size() == size:
-            limits = limits_for(len(nodes.gates.rows))
+            count = len(nodes.gates.rows)
+            limits = ["-t", str(LEAST + count // QUICK), *["-c", str(FEW)] * (count <= MANY)]
             found = self.solver.differing(nodes.gates, facts, asked, limits)
             if found is None:
                 return states
@@ -94,7 +93,7 @@ class States:
         return None
 
     def divide(self, nodes: Nodes, true: set[int]) -> None:
-        """Splits what a solution, and others beside it, show to be different."""
+        """Splits the classes that a solution and random variations of it prove to be different."""
         classes, size = self.classes, self.classes.size()
         own = Classes(nodes, classes.rng, classes.every)
         known = nodes.values(own.beside([literal >> 1 in true for literal in nodes.leaves()]),
@@ -104,23 +103,20 @@ class States:
         if classes.size() < size:
             classes.follow([*classes.drawn(nodes.inputs), *state], runs)
         if classes.size() == size:
-            raise Fault("the solver's solution is none")
-
-
-def limits_for(gates: int) -> list[str]:
-    """Returns the words of cadical's limits where it is to end soon, of so many gates."""
-    return ["-t", str(LEAST + gates // QUICK), *(["-c", str(FEW)] if gates <= MANY else [])]
+            raise Fault.of("false_solution")
 
 
 class Steps:
-    """Classes of nodes that first states have and a step keeps."""
+    """Classes of nodes that are to be equal in initial states, and inductive."""
 
     def __init__(self, classes: Classes, solver: IncrementalQueries) -> None:
         self.classes, self.nodes, self.solver = classes, classes.nodes, solver
 
     def pairs(self) -> list[Pair]:
-        """Returns pairs of them, by which first states were seen to have them, and a step to keep
-        them."""
+        """Returns the pairs of equal nodes, once the solver finds them equal in initial states, and
+        inductive.
+
+        Raises Different if a bad state is found."""
         size = None
         self.settle()
         while size != self.classes.size():
@@ -130,7 +126,7 @@ class Steps:
         return self.classes.pairs()
 
     def keep_first(self) -> None:
-        """Splits classes until first states have them."""
+        """Splits classes until their members are equal in all initial states."""
         nodes, classes = self.nodes, self.classes
         while True:
             gates = Gates(nodes.latches.stop)
@@ -145,14 +141,15 @@ class Steps:
             self.follow([*values[:len(nodes.inputs)], *state], classes.every)
 
     def constraints(self, leaves: Sequence[int], gates: Gates) -> list[int]:
-        """Returns the literals of the constraints, by those of inputs and latches, whether classes
-        hold or not."""
+        """Returns the literals of the constraints, given the literals of inputs and latches,
+        without assuming that members of classes are equal."""
         return self.nodes.allowing(self.nodes.literals(leaves,
                                                        gates)) if self.nodes.constraints else []
 
     def keep_next(self) -> None:
-        """Splits classes until a step was seen to keep each of them, some perhaps in states in
-        which others were equal that were split then."""
+        """Splits classes until the solver finds each pair inductive.
+
+        A pair may have been found inductive while other classes were larger than at the end."""
         nodes, classes, proved = self.nodes, self.classes, set[tuple[int, int]]()
         inputs = range(nodes.latches.stop, nodes.latches.stop + 2 * len(nodes.inputs), 2)
         while True:
@@ -172,7 +169,8 @@ class Steps:
             self.divide(united, found[1])
 
     def divide(self, united: MergedNodes, true: set[int]) -> None:
-        """Splits what a solution, and others beside it, show to be different in the next step."""
+        """Splits the classes that a solution and random variations of it prove to be different in
+        the next step."""
         count = len(self.nodes.leaves())
         values = self.classes.beside([number in true
                                       for number in range(1, count + len(self.nodes.inputs) + 1)])
@@ -180,14 +178,14 @@ class Steps:
         self.follow([*values[count:], *state], runs)
 
     def after(self, united: MergedNodes, leaves: Sequence[int]) -> tuple[list[int], int]:
-        """Returns the latches in the step that follows one in which members of classes are equal,
-        and the runs in which they are."""
+        """Returns the values of latches in the next step, and the runs in which members of classes
+        are equal before it."""
         known = self.nodes.values(united.leaves(leaves, self.classes.every), self.classes.every)
         return self.nodes.following(known), self.nodes.allowed(known, self.classes.equal(known))
 
     def settle(self) -> None:
-        """Splits classes by steps from random states in which members are equal, until that splits
-        none."""
+        """Splits classes by steps from random states in which members are equal, until none is
+        split."""
         classes, size = self.classes, None
         while size != (size := classes.size()):
             self.order = ordered(classes)
@@ -198,17 +196,19 @@ class Steps:
                                classes.every)
 
     def follow(self, leaves: Sequence[int], runs: int) -> None:
-        """Splits classes by runs from a step on, which has to split one."""
+        """Splits classes by runs that begin with these inputs and latches. Raises Fault if none is
+        split."""
         size = self.classes.size()
         self.classes.follow(leaves, runs)
         if self.classes.size() == size:
-            raise Fault("the solver's solution is none")
+            raise Fault.of("false_solution")
 
 
 def certificate(nodes: Nodes, pairs: list[Pair]) -> bytes:
-    """Returns the text of a certificate whose bad states are those in which a pair differs; of what
-    stands on others first, as they are asked about the last first. It has the gates that pairs
-    read."""
+    """Returns the text of a certificate, whose bad states are those in which a pair differs.
+
+    It has only the gates that pairs read. Pairs of gates below others come first in its proof
+    obligations, whose last literals are asked about first."""
     pairs, gates = Pairs(nodes, pairs).needed(), Gates(nodes.gates.next)
     read = nodes.cone(itertools.chain.from_iterable(pairs))
     gates.rows = [row for row in nodes.gates.rows if row[0] in read]
@@ -221,21 +221,27 @@ def certificate(nodes: Nodes, pairs: list[Pair]) -> bytes:
     return text_form(counts, [*nodes.inputs, *states, *bads, *gates.rows])
 
 
-class Guesses:
-    """What may be equal in a circuit of two files, of which it has so many latches each, and some
-    start like others: classes of nodes, first of latches alone, which are split until a step keeps
-    them."""
+# Classes of nodes that may be equal.
+Guess = States | Steps
 
-    def __init__(self, circuit: Circuit, alike: Mapping[int, int],
+
+class Guesses:
+    """Guesses what is always equal in a miter: classes of nodes, first of latches only, which are
+    split until they are inductive.
+
+    `equal_starts` has the latches with equal initial values, and `given` the further arguments,
+    such as the two files' numbers of latches."""
+
+    def __init__(self, circuit: Circuit, equal_starts: Mapping[int, int],
                  solver: IncrementalQueries, given: dict[str, Any]) -> None:
-        self.circuit, self.alike, self.solver, self.given = circuit, alike, solver, given
+        self.circuit, self.equal_starts = circuit, equal_starts
+        self.solver, self.given = solver, given
         self.counts: tuple[int, int] = (given["counts"][0], given["counts"][1])
-        # Whether the solver had no answer in time.
+        # Whether the solver exceeded its limits.
         self.is_hard = False
 
     def certificate(self) -> bytes | None:
-        """Returns the certificate of the first guess that a step keeps; None if there is
-        none."""
+        """Returns the certificate of the first guess that is inductive, or None."""
         try:
             for guess in self.guesses():
                 if (pairs := self.kept(guess)) is not None:
@@ -245,13 +251,14 @@ class Guesses:
         return None
 
     def guesses(self) -> Iterator[Guess]:
-        """Yields what may be equal: registers and their partners, others, and other nodes, also in
-        steps ahead."""
-        nodes, rng = Nodes(self.circuit, self.alike), random.Random(0)
+        """Yields guesses: registers and their partners, then other registers, then other nodes,
+        also of further steps."""
+        nodes, rng = Nodes(self.circuit, self.equal_starts), random.Random(0)
         latches = Classes(nodes, rng).begin([0, *nodes.latches])
-        given = partners(self.circuit, *self.counts, self.alike)
+        given = partners(self.circuit, *self.counts, self.equal_starts)
         other = {nodes.latches[i]: nodes.latches[it] for i, it in given.items() if it is not None}
-        # As many registers are seldom those of another time.
+        # If both files have the same number of registers, these are seldom from different time
+        # steps.
         ways: list[Iterable[Guess]] = [
             self.latches(latches), self.present(rng), self.ahead(rng)]
         if self.counts[0] != self.counts[1]:
@@ -259,17 +266,18 @@ class Guesses:
         yield from itertools.chain([States(paired(latches, other), self.solver)], *ways)
 
     def latches(self, latches: Classes) -> Iterator[Guess]:
-        """Yields registers, unless that was seen to be hard of those with partners."""
+        """Yields a guess about registers, unless that about partners was hard for the solver."""
         if not self.is_hard:
             yield States(latches, self.solver)
 
     def present(self, rng: random.Random) -> Iterator[Guess]:
-        """Yields nodes of one step."""
-        nodes = Nodes(self.circuit, self.alike)
+        """Yields a guess about nodes of one step."""
+        nodes = Nodes(self.circuit, self.equal_starts)
         yield Steps(Classes(nodes, rng).begin(nodes.all()), self.solver)
 
     def ahead(self, rng: random.Random) -> Iterator[Guess]:
-        """Yields also nodes of the next steps, first without those that are equal to such alone."""
+        """Yields guesses that include nodes of further steps; first without classes that have no
+        node of the present step."""
         whole = []
         for steps in AHEAD:
             stop, nodes = self.nodes_ahead(steps)
@@ -279,16 +287,16 @@ class Guesses:
             yield Steps(classes, self.solver)
 
     def nodes_ahead(self, steps: int) -> tuple[int, Nodes]:
-        """Returns nodes, and also those of so many next steps, behind the place before which the
-        others are."""
-        nodes = Nodes(self.circuit, self.alike)
+        """Returns the nodes, including those of further steps, and the literal behind the last node
+        of the present step."""
+        nodes = Nodes(self.circuit, self.equal_starts)
         stop = nodes.all().stop
         nodes.look_ahead(steps)
         return stop, nodes
 
     def kept(self, guess: Guess) -> list[Pair] | None:
-        """Returns the pairs of a guess that a step keeps; None if something differs, or it takes
-        long to be seen."""
+        """Returns the pairs of a guess if they are inductive, and None if they aren't or that takes
+        too long."""
         try:
             return guess.pairs()
         except Different:
@@ -299,21 +307,22 @@ class Guesses:
 
 
 def run(make: type[Guesses], folder: str, asked: str) -> int:
-    """Prints the certificate for the file `file.aag` of a folder, if there is one, of what is made
-    of its circuit and of what is asked: which latches start like others, how many are of each file,
-    and which solver asks."""
-    # It soon ends, and what it makes isn't looked through for what could go.
+    """Prints the certificate for the file `file.aag` in a folder, if one is found.
+
+    `make` is the class that guesses. `asked` is a JSON object with the arguments: the solver, the
+    limit, the latches with equal initial values, and the files' numbers of latches."""
+    # The program ends soon, so that collecting garbage isn't worthwhile.
     gc.disable()
     given = json.loads(asked)
     with open(os.path.join(folder, "file.aag"), "rb") as file:
         circuit = Circuit(Lines(file.read(), "FILE"), given["limit"])
-    alike = {int(place): partner for place, partner in given["alike"].items()}
+    equal_starts = {int(place): partner for place, partner in given["equal_starts"].items()}
     task = Scope(Scheduler(1)).task("guesses")
     solver = IncrementalQueries(given["solver"], given["is_cadical"], task, folder)
-    sys.stdout.buffer.write(make(circuit, alike, solver, given).certificate() or b"")
+    sys.stdout.buffer.write(make(circuit, equal_starts, solver, given).certificate() or b"")
     return 0
 
 
 def main(folder: str, asked: str) -> int:
-    """Prints the certificate of a guess."""
+    """Prints the certificate for the file in a folder."""
     return run(Guesses, folder, asked)

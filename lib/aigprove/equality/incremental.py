@@ -1,10 +1,11 @@
-"""Queries about many literals, or pairs of them, which cadical is asked in turn.
+"""Asks a solver about many literals, or pairs of literals, of one circuit.
 
-It goes on with what it learned. Another solver is asked about all at once. Nothing here is
-believed."""
+cadical is asked about one after the other, and reuses what it has learned. Other solvers are asked
+about all at once. The answers aren't checked."""
 from collections.abc import Iterable, Sequence
 
-from aigprove.circuits.aiger import Fault, Gates
+from aigprove.circuits.aiger import Fault
+from aigprove.circuits.gates import Gates
 from aigprove.options.options import HINTED
 from aigprove.processes.files import Folder, Sealed
 from aigprove.processes.scheduler import Task
@@ -13,69 +14,61 @@ from aigprove.questions.solver import ASSUMING, ended, true_of
 Pair = tuple[int, int]
 
 
-def apart(left: int, right: int) -> list[list[int]]:
-    """Returns both ways in which two literals differ, each as literals that are all true then."""
+def ways_to_differ(left: int, right: int) -> list[list[int]]:
+    """Returns both ways in which two literals can differ, each as a list of literals that are then
+    true."""
     return [[it for it in way if it != 1]
             for way in [(left, right ^ 1), (left ^ 1, right)] if 0 not in way]
 
 
 def dimacs(literal: int) -> int:
-    """Returns a literal as solvers have it."""
+    """Returns a literal in DIMACS notation."""
     return -(literal >> 1) if literal & 1 else literal >> 1
 
 
 def line(literals: Iterable[int]) -> str:
-    """Returns the literals of a clause, as solvers read them."""
+    """Returns a clause in DIMACS notation."""
     return " ".join([*(str(dimacs(it)) for it in literals), "0\n"])
 
 
 def gate_clauses(gates: Gates) -> list[str]:
-    """Returns the clauses of gates, three each."""
+    """Returns the clauses of gates, three for each."""
     rows = ((gate >> 1, dimacs(left), dimacs(right)) for gate, left, right in gates.rows)
     return [f"-{gate} {left} 0\n-{gate} {right} 0\n{gate} {-left} {-right} 0\n"
             for gate, left, right in rows]
 
 
-def equal_clauses(pairs: Iterable[Pair]) -> list[str]:
-    """Returns clauses that say that pairs are equal."""
-    return [line(it ^ 1 for it in way) for pair in pairs for way in apart(*pair)]
-
-
-def ways_in_turn(ways: Iterable[Sequence[int]]) -> list[str]:
-    """Returns what behind clauses asks about ways in turn."""
-    return [f"a {line(way)}" for way in ways]
-
-
 def ways_at_once(ways: Sequence[Sequence[int]], first: int) -> list[str]:
-    """Returns clauses that ask about all ways at once, by variables from this one on."""
+    """Returns clauses that say that one of the ways is true, with new variables from `first` on."""
     chosen = range(2 * first, 2 * (first + len(ways)), 2)
     clauses = [line([own ^ 1, literal]) for own, way in zip(chosen, ways) for literal in way]
     return [*clauses, line(chosen)]
 
 
 class IncrementalQueries:
-    """A solver that is asked about one literal, or a way in which a pair differs, after another."""
+    """A solver that is asked about pairs of literals. `words` call it, and `above` is the folder
+    for its files."""
 
     def __init__(self, words: Sequence[str], is_cadical: bool, task: Task, above: str) -> None:
         self.words, self.is_cadical, self.task, self.above = words, is_cadical, task, above
-        # The gates of the last question, and their clauses.
+        # The gates of the last query, and their clauses.
         self.gates: Gates | None = None
         self.clauses = ""
 
     def differing(self, gates: Gates, facts: Iterable[Pair], pairs: Sequence[Pair],
                   limits: Sequence[str] = ()) -> tuple[int, set[int]] | None:
-        """Returns the place of a pair that can differ, and the variables that are true then.
+        """Returns the index of a pair that can differ, and the variables that are true then; None
+        if none can differ, according to the solver.
 
-        Gates hold there, and pairs of facts are equal; what stands before that place can't differ.
-        The result is None if none can, as the solver says: nobody has looked at a proof. cadical
-        keeps to limits, which are words."""
-        ways = [way for pair in pairs for way in apart(*pair)]
+        The gates hold, and the pairs in `facts` are equal. Pairs before that index can't differ.
+        `limits` are options of cadical. Raises Undecided if it reaches a limit."""
+        ways = [way for pair in pairs for way in ways_to_differ(*pair)]
         if not ways:
             return None
         with Folder(self.above) as folder:
             with folder.make("asked") as out:
                 out.writelines(text.encode() for text in self.asked(gates, facts, ways))
-            # Only of cadical is it known that it needn't write a proof.
+            # Other solvers may need a file for their proof.
             words = [*in_turn(self.words), *limits] if self.is_cadical else self.words
             proof = [] if self.is_cadical else [folder.place("proof")]
             called = [*words, folder.place("asked"), *proof]
@@ -84,27 +77,30 @@ class IncrementalQueries:
 
     def asked(self, gates: Gates, facts: Iterable[Pair],
               ways: Sequence[Sequence[int]]) -> list[str]:
-        """Returns the pieces of a question; the clauses of gates are kept for the next one."""
+        """Returns the pieces of the solver's input. The clauses of the gates are reused in the next
+        query."""
         if self.gates is not gates:
             self.gates, self.clauses = gates, "".join(gate_clauses(gates))
-        further = equal_clauses(facts)
+        further = [line(it ^ 1 for it in way) for pair in facts for way in ways_to_differ(*pair)]
         if self.is_cadical:
-            return ["p inccnf\n", self.clauses, "".join(further + ways_in_turn(ways))]
+            further += [f"a {line(way)}" for way in ways]
+            return ["p inccnf\n", self.clauses, "".join(further)]
         further += ways_at_once(ways, gates.next >> 1)
         variables = (gates.next >> 1) + len(ways) - 1
         head = f"p cnf {variables} {3 * len(gates.rows) + len(further)}\n"
         return [head, self.clauses, "".join(further)]
 
     def solved(self, solution: Sealed, pairs: Sequence[Pair]) -> tuple[int, set[int]]:
-        """Returns what a solution says of pairs."""
+        """Returns the index of the pair that differs in a solution, and the true variables. Raises
+        Fault if none differs."""
         true = true_of(solution)
         for place, pair in enumerate(pairs):
             left, right = ((it >> 1 in true) ^ (it & 1) for it in pair)
             if left != right:
                 return place if self.is_cadical else 0, true
-        raise Fault("the solver's solution is none")
+        raise Fault.of("false_solution")
 
 
 def in_turn(words: Iterable[str]) -> list[str]:
-    """Returns the words that call cadical for questions in turn."""
+    """Returns the words that call cadical for an incremental query."""
     return [*(word for word in words if word != HINTED), ASSUMING]

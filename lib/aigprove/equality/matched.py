@@ -1,40 +1,43 @@
-"""What is matched of two files that are compared: registers with open start by order or by name, as
-aigedit and aigcheck do themselves; and of designs inputs, outputs and bad literals by their names,
-for which the second one's file is put in order. And what one file has and the other hasn't."""
+"""Matches the signals of two files.
+
+Uninitialised registers are matched by order or by name, as aigedit and aigcheck do it. The inputs,
+outputs and bad state properties of designs are matched by name: the second file is reordered for
+that. Signals without a counterpart are reported."""
 import collections
 import copy
 import re
 from collections.abc import Container, Iterable, Iterator, Mapping, Sequence
 
 from aigprove.circuits.aiger import KINDS, Circuit, Symbols, decoded, encoded
+from aigprove.data import message
 from aigprove.options.options import APART, BY_NAME, BY_ORDER, STARTS
 from aigprove.output.messages import escaped
 from aigprove.output.signals import word
 
-# The names of signals of a kind, and whether all of them have one.
+# The names of a kind of signals, and whether all of them have one.
 SomeNames = tuple[list[bytes], bool]
-# How many names are said of each file.
+# The greatest number of names that are listed for each file.
 MOST_NAMED = 10
-# By the letter of a kind: its words, and what it is called in a header.
+# By letter: the name of a kind of signals, and that of its number in a header.
 SIGNALS = {"i": ("inputs", "inputs"), "o": ("outputs", "outputs"), "b": ("bad literals", "bads")}
 Named = Circuit | Symbols
 
-# What stands behind the names of commands, by how registers with open start begin.
+# The suffix of a command's name, by the value of `--starts`.
 SUFFIXES = {way: "" if way == APART else f"-alike-{way}" for way in STARTS}
-# How many names are told at once; and such as programs make, without the index of a bit or with it.
+# The greatest number of names that are listed, and a pattern of generated names.
 NAMED, MADE = 10, re.compile(r"_[0-9]+_(\[[0-9]+\])?")
 
 
 def names_of(circuit: Circuit, letter: str, count: int) -> SomeNames:
-    """Returns the names of the signals of a kind, of which there are so many, and whether all have
-    one."""
+    """Returns the names of the `count` signals of a kind, and whether all have one."""
     names = [circuit.names[letter, i] for i in range(count) if (letter, i) in circuit.names]
     return names, len(names) == count
 
 
-def names_alone(path: str, own: SomeNames, other: SomeNames) -> list[str]:
-    """Returns which names one file has alone, in a list of one, where they tell that: where each
-    signal of the other one has a name."""
+def names_only_in(path: str, own: SomeNames, other: SomeNames) -> list[str]:
+    """Returns a text about the names that only the first file has, in a list, or an empty list.
+
+    If the second file has signals without a name, nothing can be said."""
     names, (others, has_all) = own[0], other
     found = [word(decoded(name)) for name in names if has_all and name not in others]
     more = ["and others"] * (len(found) > MOST_NAMED)
@@ -43,28 +46,28 @@ def names_alone(path: str, own: SomeNames, other: SomeNames) -> list[str]:
 
 def described(letter: str,
               paths: Sequence[str], circuits: Sequence[Circuit], is_named: bool) -> str:
-    """Returns how many signals of a kind two files have, and the names of those that one of them
-    has alone, where they are to have the same."""
+    """Returns the numbers of signals of a kind in two files, with names that only one of them has
+    if the numbers differ, or if `is_named`: then the names have to be the same."""
     what, attribute = SIGNALS[letter]
     counts = [getattr(circuit.header, attribute) for circuit in circuits]
     first, other = (names_of(circuit, letter, count) for circuit, count in zip(circuits, counts))
     is_told = is_named or counts[0] != counts[1]
-    found = [*names_alone(paths[0], first, other),
-             *names_alone(paths[1], other, first)] if is_told else []
+    found = [*names_only_in(paths[0], first, other),
+             *names_only_in(paths[1], other, first)] if is_told else []
     return f"{counts[0]} and {counts[1]} {what}" + f" ({'; '.join(found)})" * bool(found)
 
 
 def mismatch(paths: Sequence[str], circuits: Sequence[Circuit], named: Container[str] = "") -> str:
-    """Returns the line that says why two files don't fit, whose signals of some kinds, by these
-    letters, have other names."""
+    """Returns the message that two files have different signals. `named` has the letters of the
+    kinds whose names differ."""
     parts = [described(letter, paths, circuits, letter in named) for letter in SIGNALS]
-    return f"{' and '.join(paths)} don't fit: {', '.join(parts)}"
+    return message("mismatch", paths=" and ".join(paths), counts=", ".join(parts))
 
 
 def partners(way: str, first: Circuit, other: Circuit) -> dict[int, int]:
-    """Returns the place of the first circuit's register for each of the other's that starts like
-    it, by its place."""
-    ours, theirs = first.opened(), other.opened()
+    """Returns the position of the first circuit's register for each matched register of the second,
+    by its position."""
+    ours, theirs = first.uninitialised(), other.uninitialised()
     if way == BY_ORDER:
         return dict(zip(theirs, ours))
     named = {first.names[place]: place[1]
@@ -73,40 +76,43 @@ def partners(way: str, first: Circuit, other: Circuit) -> dict[int, int]:
 
 
 def way_by_names(circuits: Iterable[Circuit]) -> str:
-    """Returns by name, if all registers with open start have one, and otherwise by order."""
+    """Returns by-name if all uninitialised registers have a name, and otherwise by-order."""
     return BY_NAME if all(("l", i) in circuit.names
-                          for circuit in circuits for i in circuit.opened()) else BY_ORDER
+                          for circuit in circuits for i in circuit.uninitialised()) else BY_ORDER
 
 
 class Starts:
-    """How registers with open start begin in two circuits; what stands behind the names of
-    commands, and what behind lines. If no two are matched all are apart."""
+    """How uninitialised registers of two circuits are matched; the suffix of commands, and the text
+    behind lines.
+
+    If no two registers are matched, their initial values are independent."""
 
     def __init__(self, way: str, *circuits: Circuit) -> None:
         self.partners = partners(way, *circuits) if circuits else {}
         self.way = way if self.partners else APART
         self.suffix = SUFFIXES[self.way]
         said = f", registers with open start alike {way.replace('-', ' ')}"
-        self.said = said * (self.way != APART)
+        self.qualifier = said * (self.way != APART)
 
 
-def alone(way: str, paths: Sequence[str], first: Circuit, other: Circuit) -> Iterator[str]:
-    """Yields lines of the registers with open start that have no partner in the other file, and
-    why."""
+def unmatched(way: str, paths: Sequence[str], first: Circuit, other: Circuit) -> Iterator[str]:
+    """Yields lines about the uninitialised registers without a counterpart in the other file, with
+    the reason."""
     found = partners(way, first, other)
-    yield from lines_of_alone(way, paths, first, other, set(found.values()))
-    yield from lines_of_alone(way, paths[::-1], other, first, set(found))
+    yield from lines_of_unmatched(way, paths, first, other, set(found.values()))
+    yield from lines_of_unmatched(way, paths[::-1], other, first, set(found))
 
 
-def lines_of_alone(way: str, paths: Sequence[str],
-                   own: Circuit, other: Circuit, matched: set[int]) -> Iterator[str]:
-    """Yields these lines of one file, in which registers at these places have partners."""
+def lines_of_unmatched(way: str, paths: Sequence[str], own: Circuit, other: Circuit,
+                       matched: set[int]) -> Iterator[str]:
+    """Yields these lines for one file. `matched` has the positions of the registers that have a
+    counterpart."""
     names = collections.defaultdict[str, dict[str, bool]](dict)
-    known = open_names(other)
-    for place in own.opened():
+    known = uninitialised_names(other)
+    for place in own.uninitialised():
         if place not in matched:
-            why = "{} has fewer" if way == BY_ORDER else why_alone(own.names.get(("l", place)),
-                                                                   known)
+            name = own.names.get(("l", place))
+            why = "{} has fewer" if way == BY_ORDER else why_unmatched(name, known)
             names[why][shown(own, place)] = True
     for why, found in names.items():
         listed = [*list(found)[:NAMED],
@@ -117,14 +123,14 @@ def lines_of_alone(way: str, paths: Sequence[str],
 
 
 def shown(circuit: Circuit, place: int) -> str:
-    """Returns a register as it is told: by its place where it has no name, and the bits of a word
-    as one."""
+    """Returns the printed name of a register: without the index of a bit or, if it has no name, its
+    place."""
     name = circuit.names.get(("l", place))
     return f"l{place}" if name is None else word(decoded(re.sub(rb"\[[0-9]+\]$", b"", name)))
 
 
-def open_names(circuit: Circuit) -> dict[bytes | None, bool]:
-    """Returns of the names of a circuit's registers whether one with open start has it."""
+def uninitialised_names(circuit: Circuit) -> dict[bytes | None, bool]:
+    """Returns for each name of a circuit's registers whether one of them is uninitialised."""
     known: dict[bytes | None, bool] = {}
     for i, reset in enumerate(circuit.resets):
         name = circuit.names.get(("l", i))
@@ -132,9 +138,9 @@ def open_names(circuit: Circuit) -> dict[bytes | None, bool]:
     return known
 
 
-def why_alone(name: bytes | None, known: Mapping[bytes | None, bool]) -> str:
-    """Returns why a register of this name has no partner by name, where these are known of another
-    file."""
+def why_unmatched(name: bytes | None, known: Mapping[bytes | None, bool]) -> str:
+    """Returns why a register has no counterpart by name. `known` are the other file's names, as
+    `uninitialised_names` returns them."""
     if name is None:
         return "no name"
     if name not in known:
@@ -143,9 +149,10 @@ def why_alone(name: bytes | None, known: Mapping[bytes | None, bool]) -> str:
 
 
 def order(letter: str, first: Named, other: Named) -> list[int] | None:
-    """Returns the places of the second circuit's signals of a kind in the order in which the first
-    has their names; as they stand where the counts differ, or some have no name or the same one.
-    None if both haven't the same names."""
+    """Returns the positions of the second circuit's signals of a kind, in the order of the first
+    circuit's names; None if the names differ.
+
+    If the numbers differ, or not all names are there and different, the order stays."""
     ours, theirs = ([it.names.get((letter, i)) for i in range(getattr(it.header, KINDS[letter]))]
                     for it in (first, other))
     if len(ours) != len(theirs) or any(None in names or len(set(names)) < len(names)
@@ -156,12 +163,12 @@ def order(letter: str, first: Named, other: Named) -> list[int] | None:
 
 
 def orders(first: Named, other: Named) -> dict[str, list[int] | None]:
-    """Returns these of all kinds, by their letters."""
+    """Returns these positions for each kind, by letter."""
     return {letter: order(letter, first, other) for letter in SIGNALS}
 
 
 def arranged(circuit: Circuit, places: Mapping[str, Sequence[int]]) -> Circuit:
-    """Returns the circuit with its signals of these kinds in the order of these places."""
+    """Returns a circuit whose signals have the given order, by letter."""
     made = copy.copy(circuit)
     made.names = {place: name for place, name in circuit.names.items() if place[0] not in places}
     for letter, own in places.items():
@@ -173,15 +180,17 @@ def arranged(circuit: Circuit, places: Mapping[str, Sequence[int]]) -> Circuit:
 
 
 def best(names: Iterable[str]) -> str:
-    """Returns the name of a register that a person gave, of fewest modules, and the shortest."""
+    """Returns the name that a register most likely has in the source: not a generated one, of the
+    outermost module, and short."""
     return min(names, key=lambda name: (MADE.fullmatch(name) is not None,
                                         name.count("."), len(name), name))
 
 
 def chosen(designs: Sequence[Mapping[int, Sequence[str]]]) -> list[dict[int, str]]:
-    """Returns a name for each register of designs, of which all names are given by their places: of
-    two designs one that both have, if there is such, and else one that no other register of the
-    same has."""
+    """Returns a name for each register of one or two designs, given all names of each.
+
+    Registers of two designs get a name that both have, if there is one, and otherwise one that no
+    other register has."""
     made: list[dict[int, str]] = [{} for _ in designs]
     if len(designs) == 2:
         places = {name: place for place, names in designs[1].items() for name in names}
@@ -199,7 +208,7 @@ def chosen(designs: Sequence[Mapping[int, Sequence[str]]]) -> list[dict[int, str
 
 
 def with_registers(circuit: Circuit, names: Mapping[int, str]) -> Circuit:
-    """Returns the circuit with these names of registers, by their places."""
+    """Returns a circuit whose registers have these names, by position."""
     made = copy.copy(circuit)
     made.names = {place: name for place, name in circuit.names.items() if place[0] != "l"}
     made.names.update((("l", place), encoded(names[place])) for place in sorted(names))

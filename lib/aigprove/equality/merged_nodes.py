@@ -1,18 +1,17 @@
-"""What nodes are where those of a class are one, and which pairs of them follow from others.
-
-Nothing here is believed."""
+"""Merges the nodes of each class, and finds pairs that follow from other pairs. Nothing here is
+trusted."""
 from collections.abc import Sequence
 
-from aigprove.circuits.aiger import Gates
+from aigprove.circuits.gates import Gates
 from aigprove.equality.nodes import Classes, Nodes
 
-# Two nodes that aren't one by themselves, and the literals that they would be.
-Apart = tuple[tuple[int, int], tuple[int, int]]
+# Two nodes that structural hashing doesn't merge, and their literals after merging all others.
+Unmerged = tuple[tuple[int, int], tuple[int, int]]
 
 
 def read_by(classes: Classes) -> dict[int, tuple[int, ...]]:
-    """Returns what stands before each node: before a gate its operands, and before a latch the
-    first gate of its class, if there is one."""
+    """Returns what has to precede each node in the order: the operands of a gate, and before a
+    latch the first gate of its class."""
     nodes = classes.nodes
     read: dict[int, tuple[int, ...]] = {
         gate: (left & ~1, right & ~1) for gate, left, right in nodes.gates.rows}
@@ -25,8 +24,8 @@ def read_by(classes: Classes) -> dict[int, tuple[int, ...]]:
 
 
 def ordered(classes: Classes) -> list[int]:
-    """Returns all nodes, by their literals, in an order in which each stands behind what it reads,
-    but for latches that a gate of their class reads."""
+    """Returns all nodes in an order in which each comes after the nodes that it reads, except for
+    cycles through a latch and a gate of its class."""
     read, order, done, first = read_by(classes), [], {0}, classes.nodes.latches.stop
     for root in classes.nodes.all():
         path, opened = [root], set()
@@ -35,8 +34,8 @@ def ordered(classes: Classes) -> list[int]:
             before = None if it in done else next(
                 (below for below in read.get(it, ()) if below not in done), None)
             if before in opened:
-                # It reads itself: the last latch has its place before its gate, and what stands
-                # behind it is looked at again.
+                # There is a cycle: the last latch comes before the gate of its class, and the nodes
+                # behind that latch are visited again.
                 before = None
                 while (it := path[-1]) >= first:
                     opened.discard(path.pop())
@@ -51,8 +50,8 @@ def ordered(classes: Classes) -> list[int]:
 
 
 class MergedNodes:
-    """All nodes in an order, and for each the literal of the one of its class that stands before
-    all others there, if it is another."""
+    """All nodes in an order, each with the literal of the first node of its class, if it isn't that
+    node itself."""
 
     def __init__(self, classes: Classes, order: Sequence[int]) -> None:
         self.nodes, self.rows, first = classes.nodes, [], classes.nodes.latches.stop
@@ -65,10 +64,12 @@ class MergedNodes:
             self.rows.append((it, below, None if same == it else same))
 
     def literals(self, leaves: Sequence[int],
-                 gates: Gates, merged: dict[int, int]) -> tuple[list[int], list[Apart]]:
-        """Returns the literals of all nodes, by those of inputs and latches, and pairs that aren't
-        one by themselves: the literals of two nodes, and what they would be. What is equal so, as
-        all pairs are from there on, is told in `merged`."""
+                 gates: Gates, merged: dict[int, int]) -> tuple[list[int], list[Unmerged]]:
+        """Returns the literals of all nodes after merging, and the pairs that structural hashing
+        doesn't merge.
+
+        `leaves` are the literals of inputs and latches, `gates` the gates to which new ones are
+        added, and `merged` the literals that others stand for, which is extended."""
         known, apart = [0, 1] + [0] * (self.nodes.all().stop - 2), []
         for it, below, same in self.rows:
             value = gates.both(known[below[0]], known[below[1]]) if below else leaves[(it >> 1) - 1]
@@ -83,7 +84,7 @@ class MergedNodes:
 
     def leaves(self, values: Sequence[int], every: int) -> list[int]:
         """Returns values of inputs and latches for which members of a class are equal, as far as
-        latches may be what others are."""
+        latches can have the values of others."""
         known = [0, every] + [0] * (self.nodes.all().stop - 2)
         for it, below, same in self.rows:
             value = (known[same] if same is not None else known[below[0]] & known[below[1]]
@@ -93,8 +94,8 @@ class MergedNodes:
 
 
 class Pairs:
-    """Pairs of nodes of which each first one stands for the other, in a circuit where all pairs are
-    equal."""
+    """Pairs of nodes in a circuit where the two nodes of each pair are equal. The first of each
+    pair stands for the other."""
 
     def __init__(self, nodes: Nodes, pairs: Sequence[tuple[int, int]]) -> None:
         self.nodes, self.pairs = nodes, pairs
@@ -104,9 +105,8 @@ class Pairs:
         self.implied: dict[int, int] = {}
 
     def unite(self) -> list[int]:
-        """Returns the literals of all nodes.
-
-        Finds the gates that are what stands for them once those below them are."""
+        """Returns the literals of all nodes after merging. Records the gates that are equal to the
+        first of their pair by structural hashing."""
         known, gates = [0, 1], self.gates
         for leaf in self.nodes.leaves():
             value = known[self.standing[leaf]] if leaf in self.standing else leaf
@@ -121,9 +121,9 @@ class Pairs:
             known += value, value ^ 1
         return known
 
-    def apart(self) -> set[int]:
-        """Returns such gates that aren't what stands for them in the next step as well, unless
-        pairs are equal there, too."""
+    def unequal_next(self) -> set[int]:
+        """Returns those of these gates that aren't equal in the next step by structural hashing,
+        unless pairs are assumed equal there as well."""
         now = self.unite()
         later = self.nodes.literals([*self.inputs, *self.nodes.following(now)], self.gates)
         return {gate for gate, same in self.implied.items() if later[gate] != later[same]}
@@ -135,11 +135,11 @@ class Pairs:
                 for literal in rows[(gate - first) >> 1][1:]} if gate >= first else set()
 
     def needed(self) -> list[tuple[int, int]]:
-        """Returns the pairs that stay.
+        """Returns the pairs that a certificate needs.
 
-        In the next step a pair of gates may be left out if its operands are equal by clauses, but
-        not if they are themselves pairs that were left out so: that would take cases."""
-        apart, left_out = self.apart(), set[int]()
+        A pair of gates may be left out if unit propagation finds it equal in the next step: if its
+        operands are equal, and aren't themselves left out for that reason."""
+        apart, left_out = self.unequal_next(), set[int]()
         for gate in filter(apart.__contains__, self.implied):
             if left_out.isdisjoint(self.read(gate) | self.read(self.implied[gate] & ~1)):
                 left_out.add(gate)

@@ -1,7 +1,8 @@
-"""Clauses of gates, each an and, in which variables are merged whose definitions are equal, or that
-units say to be equal, and the clauses that say so: each follows from those before it by unit
-propagation, and so a proof may begin with them. A program that asks cadical so. Nothing here is
-believed."""
+"""Merges equal variables of clauses, and asks cadical about the rest.
+
+The clauses define gates, each an and. Variables are merged if their definitions are equal, or if
+unit clauses say so. Each clause that says so follows from those before it by unit propagation, so a
+proof may begin with them. This is a program of its own, and aigcheck checks the proof."""
 import gc
 import itertools
 import os
@@ -9,27 +10,30 @@ import signal
 import sys
 from collections.abc import Iterable, Iterator, Sequence
 
-# A gate: its variable and its operands.
+from aigprove.data import message
+
+# A gate: its variable and its operands, as DIMACS literals.
 Gate = tuple[int, int, int]
 TRUE, FALSE = -1, 1
 
 
 def parsed(clauses: bytes) -> tuple[int, int]:
-    """Returns how many variables a file in DIMACS form has, and where its clauses begin."""
+    """Returns the number of variables of a DIMACS file, and the offset of its first clause."""
     head = 0 if clauses.startswith(b"p cnf ") else clauses.index(b"\np cnf ") + 1
     end = clauses.index(b"\n", head)
     return int(clauses[head:end].split()[2]), end + 1
 
 
 def is_short(line: bytes) -> bool:
-    """Returns whether a clause has one literal, or none."""
+    """Returns whether a line has a clause of at most one literal."""
     return line.count(b" ") < 2
 
 
 def definitions(lines: Sequence[bytes]) -> tuple[list[Gate], list[tuple[int, ...]]]:
-    """Returns of the lines of clauses, as our programs print them raw, the gates, by the variable
-    and its two operands, and the clauses of one literal that stand before and behind these. A gate
-    has three clauses: -v x, -v y, v -x -y."""
+    """Returns the gates in the lines of plain Tseitin clauses, and the unit clauses in front of and
+    behind them.
+
+    A gate has three clauses: -v x, -v y, v -x -y. Raises ValueError if there are other clauses."""
     first, stop = 0, len(lines)
     while first < stop and is_short(lines[first]):
         first += 1
@@ -39,7 +43,7 @@ def definitions(lines: Sequence[bytes]) -> tuple[list[Gate], list[tuple[int, ...
     one, two = ([-number for number in numbers[place::4]] for place in (1, 2))
     gates = list(zip(numbers[::4], one, two))
     if 3 * len(gates) != stop - first or any(numbers[3::4]):
-        raise ValueError("there are other clauses than those of gates")
+        raise ValueError(message("other_clauses"))
     return gates, [tuple(map(int, line.split()[:-1])) for line in [*lines[:first], *lines[stop:]]]
 
 
@@ -49,24 +53,23 @@ def clauses_of(variable: int, left: int, right: int) -> list[list[int]]:
 
 
 def text_of(clause: Iterable[int]) -> bytes:
-    """Returns the text of a clause."""
+    """Returns a clause in DIMACS notation."""
     return b"%s 0\n" % b" ".join(b"%d" % it for it in clause)
 
 
 def texts_of(clauses: Iterable[Iterable[int]]) -> Iterator[bytes]:
-    """Returns the texts of clauses, of those that say the same one, and of those that are always
-    true none."""
+    """Returns clauses in DIMACS notation, without duplicates and tautologies."""
     sets = dict.fromkeys(frozenset(clause) for clause in clauses)
     return (text_of(own) for own in sets if TRUE not in own and not any(-it in own for it in own))
 
 
 def is_plain(variable: int, left: int, right: int) -> bool:
-    """Returns whether no clause of a gate can be always true, or has a literal twice."""
+    """Returns whether the clauses of a gate are neither tautologies nor have a literal twice."""
     return len({1, abs(variable), abs(left), abs(right)}) == 4
 
 
 def text_of_gate(variable: int, left: int, right: int) -> bytes:
-    """Returns the text of a gate's clauses."""
+    """Returns the clauses of a gate in DIMACS notation."""
     if is_plain(variable, left, right):
         return b"%d %d 0\n%d %d 0\n%d %d %d 0\n" % (-variable, left, -variable,
                                                     right, variable, -left, -right)
@@ -74,14 +77,14 @@ def text_of_gate(variable: int, left: int, right: int) -> bytes:
 
 
 def text_of_lemmas(literal: int, other: int) -> bytes:
-    """Returns the text of clauses that say that a literal is another."""
+    """Returns the clauses that say that two literals are equal, in DIMACS notation."""
     if abs(other) == 1:
         return b"%d 0\n" % (literal if other == TRUE else -literal)
     return b"%d %d 0\n%d %d 0\n" % (-literal, other, literal, -other)
 
 
 def literal_of(left: int, right: int) -> int | None:
-    """Returns the literal that an and is, if it is one; else None."""
+    """Returns the literal to which an and of two literals simplifies, or None."""
     if FALSE in (left, right) or left == -right:
         return FALSE
     if left == TRUE or left == right:
@@ -90,13 +93,13 @@ def literal_of(left: int, right: int) -> int | None:
 
 
 class Merging:
-    """The clauses of a question, of which the last one is left out, and for each variable the
-    literal that stands for it: variable 1 is false."""
+    """The clauses of a query, without the last one, and for each variable the literal that it is
+    merged with. Variable 1 is false."""
 
     def __init__(self, clauses: bytes) -> None:
         count, place = parsed(clauses)
         *lines, last, _ = clauses[place:].split(b"\n")
-        # By a variable and by its inverse, which counts from the end.
+        # Indexed by a literal: the inverse of a variable counts from the end of the list.
         self.count = count
         self.same: list[int] = [*range(count + 1), *range(-count, 0)]
         *self.last, _ = map(int, last.split())
@@ -104,8 +107,8 @@ class Merging:
         self.merged: list[tuple[int, int]] = []
         for (it,) in filter(None, self.others):
             self.same[it], self.same[-it] = TRUE, FALSE
-        # Equal definitions first, so that the nodes of a file and of its certificate are the same
-        # ones; then what units say of these.
+        # Variables with equal definitions are merged first, so that the nodes of a file and of its
+        # certificate become the same. Then unit clauses merge others.
         gates = self.merge(gates)
         self.merge_equal(gates)
         left, same = self.merge(gates), self.same
@@ -114,23 +117,22 @@ class Merging:
                                        for variable, one, two in left))
 
     def literal(self, of: int) -> int:
-        """Returns what stands for a literal."""
+        """Returns the literal that a literal is merged with."""
         return self.same[of]
 
     def resolve(self) -> None:
-        """Has nothing stand for a literal for which another stands."""
+        """Replaces each literal that is itself merged with another one."""
         for variable in range(2, self.count + 1):
             it = self.same[self.same[variable]]
             self.same[variable], self.same[-variable] = it, -it
 
     def merge(self, gates: Iterable[Gate]) -> list[Gate]:
-        """Returns the gates that are left when variables of the same definition are merged: those
-        that say more than others before them."""
+        """Merges the variables of equal definitions, and returns the other gates."""
         self.resolve()
         same, made, left = self.same, dict[tuple[int, int], int | None](), list[Gate]()
         for gate in gates:
             variable, one, two = gate
-            # What stood for a literal may have been merged here.
+            # These may have been merged in this loop.
             own, one, two = same[same[variable]], same[same[one]], same[same[two]]
             key = (one, two) if one < two else (two, one)
             other = made.get(key)
@@ -146,14 +148,14 @@ class Merging:
         return left
 
     def unite(self, own: int, other: int) -> None:
-        """Has the literal of the variable before the other's stand for that one."""
+        """Merges two literals: that of the smaller variable stays."""
         if abs(own) < abs(other):
             own, other = other, own
         self.same[own], self.same[-own] = other, -other
         self.merged.append((own, other))
 
     def merge_equal(self, gates: Iterable[Gate]) -> None:
-        """Merges variables of which units say that neither is true without the other."""
+        """Merges the variables of which unit clauses say that neither is true without the other."""
         ands = [operands for variable, *operands in gates if self.same[variable] == FALSE]
         apart = {tuple(sorted(map(self.literal, own), key=abs)) for own in ands}
         for left, right in apart:
@@ -163,14 +165,14 @@ class Merging:
                     self.same[right], self.same[-right] = -left, left
 
     def last_of(self, literal: int) -> int:
-        """Returns what stands for a literal, and for that, and so on."""
+        """Returns the literal at the end of the chain of merged literals."""
         while (it := self.same[literal]) != literal:
             literal = it
         return literal
 
     def asked(self) -> Iterator[bytes]:
-        """Yields a file of cadical's that asks about the literals of the last clause in turn, the
-        last first; nothing if all are false."""
+        """Yields the pieces of cadical's input, which asks about the literals of the last clause in
+        turn, the last first. Yields nothing if all are false."""
         wanted = dict.fromkeys(it for it in map(self.literal, reversed(self.last)) if it != FALSE)
         if wanted:
             yield b"p inccnf\n-1 0\n"
@@ -179,20 +181,22 @@ class Merging:
             yield from (b"a %d 0\n" % it for it in wanted)
 
     def proof(self) -> bytes:
-        """Returns the begin of a proof: each merged variable and what stood for it then imply one
-        another.
+        """Returns the beginning of a proof: for each merged variable, that it is equal to the other
+        literal.
 
-        Then come clauses that are shorter than those that were printed, by which unit propagation
-        finds more."""
+        Then come the clauses that are shorter after merging, by which unit propagation finds
+        more."""
         shorter = itertools.filterfalse(lambda row: is_plain(*row), self.rows)
         return b"".join([*itertools.starmap(text_of_lemmas, self.merged),
                          *itertools.starmap(text_of_gate, shorter)])
 
 
 def main(folder: str, *words: str) -> int:
-    """Asks cadical, which these words call, about the clauses in a folder, prints its solution or
-    the whole proof, and returns its status, or ends as it ends."""
-    # It soon ends, and what it makes isn't looked through for what could go.
+    """Asks cadical, which `words` call, about the clauses in a folder. Prints its solution or the
+    whole proof, and returns its status.
+
+    If a signal ends cadical, it ends this process, too."""
+    # The program ends soon, so that collecting garbage isn't worthwhile.
     gc.disable()
     clauses, asked, proof, answer = (os.path.join(folder, name)
                                      for name in ["clauses.cnf", "asked", "proof", "answer"])
@@ -201,7 +205,7 @@ def main(folder: str, *words: str) -> int:
     with open(asked, "xb") as out:
         out.writelines(merging.asked())
         is_asked = out.tell() > 0
-    # It runs while the begin of the proof is made.
+    # It runs while the beginning of the proof is generated.
     solver = is_asked and started([*words, asked, proof], answer)
     begin, status = merging.proof(), os.waitstatus_to_exitcode(os.waitpid(solver,
                                                                           0)[1]) if solver else 20
@@ -209,15 +213,15 @@ def main(folder: str, *words: str) -> int:
     if solver:
         with open(proof if status == 20 else answer, "rb") as file:
             sys.stdout.buffer.write(file.read())
-    # Where it was ended by a signal, this is, too.
     if status < 0:
         os.kill(os.getpid(), -status)
     return status
 
 
 def started(words: list[str], out: str) -> int:
-    """Returns the number of a process that these words start, without input, and whose output goes
-    into a file. Python ignores what ends a program that writes too much."""
+    """Starts a program without input, whose output goes into a file, and returns its process id.
+
+    Python ignores SIGPIPE and SIGXFSZ; the program doesn't."""
     streams = [(os.POSIX_SPAWN_OPEN, 0, os.devnull, os.O_RDONLY, 0),
                (os.POSIX_SPAWN_OPEN, 1, out, os.O_WRONLY | os.O_CREAT | os.O_EXCL, 0o600)]
     return os.posix_spawnp(words[0], words, os.environ,

@@ -1,7 +1,8 @@
-"""The nodes of a circuit in order, what they are in many runs at once, each of which is a bit of an
-integer, and classes of nodes that may be equal at every step, as random runs have it.
+"""The nodes of a circuit, their values in many simulations at once, and classes of nodes that may
+always be equal.
 
-Nothing here is believed."""
+Each bit of a value, which is an integer, belongs to one simulation ("run"). Nothing here is
+trusted."""
 from __future__ import annotations
 
 import collections
@@ -12,25 +13,28 @@ import operator
 import random
 from collections.abc import Iterable, Mapping, Sequence
 
-from aigprove.circuits.aiger import Circuit, Gates, literals_of
+from aigprove.circuits.aiger import Circuit
+from aigprove.circuits.gates import Gates, literals_of
 
-# The values of all literals.
+# The values of all literals, indexed by literal.
 Known = Sequence[int]
-# How many runs are simulated at once, at least and at most, and of how many bits in all values.
+# The least and the greatest number of runs at once, and the greatest number of bits of all values.
 FEWEST, MOST, BITS = 64, 4096, 1 << 28
-# Of more bits than these few are inverted one by one.
+# If there are more inputs and latches than this, single bits are inverted.
 MANY = 400
-# For how many steps from the first states, from random states, and from those that a solver finds;
-# and how many that split no class are the last ones.
+# The numbers of steps from initial states, from random states, and from states that a solver finds;
+# and how many steps in a row that split no class are the last.
 BEGUN, DRAWN, FOUND, IDLE = 16, 4, 8, 3
 
 
 class Nodes:
-    """A circuit whose literals are those of 0, its inputs, its latches and its gates, in this
-    order, each gate once; by their places some of its latches start like others."""
+    """A circuit in which the literals of the constant, inputs, latches and gates have this order,
+    with each gate once.
 
-    def __init__(self, circuit: Circuit, alike: Mapping[int, int] | None = None) -> None:
-        self.alike = alike or {}
+    `equal_starts` has the latches whose initial values are those of other latches, by positions."""
+
+    def __init__(self, circuit: Circuit, equal_starts: Mapping[int, int] | None = None) -> None:
+        self.equal_starts = equal_starts or {}
         self.inputs = range(2, 2 * len(circuit.inputs) + 2, 2)
         self.latches = range(self.inputs.stop, self.inputs.stop + 2 * len(circuit.latches), 2)
         self.gates, self.resets = Gates(self.latches.stop), circuit.resets
@@ -49,16 +53,18 @@ class Nodes:
         return [*self.inputs, *self.latches]
 
     def first(self, values: Iterable[int], every: int) -> list[int]:
-        """Returns the first values of the latches, by these of those that are open, in the runs of
-        `every`; where this is 1 they may be literals."""
+        """Returns the initial values of the latches.
+
+        `values` are those of uninitialised latches, and `every` has a bit for each run; if it is 1,
+        the values may be literals."""
         state = [every * reset if reset < 2 else value for reset, value in zip(self.resets, values)]
-        for place, partner in self.alike.items():
+        for place, partner in self.equal_starts.items():
             state[place] = state[partner]
         return state
 
     def values(self, leaves: Sequence[int], every: int) -> list[int]:
-        """Returns the values of all literals, by those of inputs and latches, in the runs of
-        `every`."""
+        """Returns the values of all literals, given those of inputs and latches. `every` has a bit
+        for each run."""
         known = sides(leaves, every)
         for _, left, right in self.gates.rows:
             value = known[left] & known[right]
@@ -66,7 +72,7 @@ class Nodes:
         return known
 
     def literals(self, leaves: Sequence[int], gates: Gates) -> list[int]:
-        """Returns the same of literals of other gates."""
+        """Returns the literals of all nodes in other `gates`, given those of inputs and latches."""
         known = sides(leaves, 1) + [0] * (self.gates.next - self.latches.stop)
         for gate, left, right in self.gates.rows:
             known[gate] = gates.both(known[left], known[right])
@@ -74,7 +80,7 @@ class Nodes:
         return known
 
     def next(self, literal: int) -> int:
-        """Returns the literal of what a latch, or 0, is in the next step."""
+        """Returns the literal of a latch's next value, or the constant itself."""
         if literal < 2:
             return literal
         return self.nexts[(literal - self.latches.start) // 2] ^ literal & 1
@@ -84,24 +90,24 @@ class Nodes:
         return [known[literal] for literal in self.nexts]
 
     def allowing(self, known: Known) -> list[int]:
-        """Returns the constraints."""
+        """Returns the values of the constraints."""
         return [known[literal] for literal in self.constraints]
 
     def allowed(self, known: Known, runs: int) -> int:
-        """Returns those of some runs in which the constraints hold."""
+        """Returns those of the given runs that meet the constraints."""
         for literal in self.constraints:
             runs &= known[literal]
         return runs
 
     def merged(self, leaves: Sequence[int]) -> tuple[Nodes, list[int]]:
-        """Returns the same where inputs and latches are these literals of them, and the literals
-        that all of its own have there."""
+        """Returns the nodes after replacing inputs and latches by the literals `leaves`, and the
+        new literals of all old ones."""
         gates = Gates(self.latches.stop)
         known = self.literals(leaves, gates)
         return self.with_gates(gates, known), known
 
     def with_gates(self, gates: Gates, known: Known) -> Nodes:
-        """Returns the same over other gates, by what its literals are there."""
+        """Returns the nodes over other gates. `known` has the new literal of each old one."""
         made, lists = copy.copy(self), [self.nexts, self.bads, self.constraints]
         made.gates = gates
         made.nexts, made.bads, made.constraints = ([known[literal] for literal in literals]
@@ -109,7 +115,7 @@ class Nodes:
         return made
 
     def cone(self, literals: Iterable[int]) -> set[int]:
-        """Returns the nodes that literals read, by their literals."""
+        """Returns the nodes that literals depend on in the same step, by their literals."""
         seen = {literal & ~1 for literal in literals}
         for gate, left, right in reversed(self.gates.rows):
             if gate in seen:
@@ -117,8 +123,8 @@ class Nodes:
         return seen
 
     def without(self, kept: set[int]) -> tuple[Nodes, list[int]]:
-        """Returns the same with no gates but these, which have all that they read, and the literals
-        that its own have there."""
+        """Returns the nodes with only the gates in `kept`, and the new literals of all old ones.
+        Operands of these gates have to be among them."""
         first, gates = self.latches.stop, Gates(self.latches.stop)
         known = [*range(first), *[0] * (self.gates.next - first)]
         for gate, left, right in self.gates.rows:
@@ -128,7 +134,8 @@ class Nodes:
         return self.with_gates(gates, known), known
 
     def look_ahead(self, steps: int) -> None:
-        """Adds what nodes are in so many next steps, where they read no inputs of these."""
+        """Adds the values of nodes in a number of further steps, as far as they don't depend on
+        inputs of these steps."""
         nexts, seen = zip([0, *self.latches], [0, *self.nexts]), 0
         later = {literal ^ side: next ^ side for literal, next in nexts for side in (0, 1)}
         for _ in range(steps):
@@ -140,7 +147,7 @@ class Nodes:
 
 
 def sides(values: Iterable[int], every: int) -> list[int]:
-    """Returns 0 and 1, and values and their inverses, one after the other."""
+    """Returns the values of both constants, followed by each value and its inverse."""
     known = [0, every]
     for value in values:
         known += value, value ^ every
@@ -148,7 +155,7 @@ def sides(values: Iterable[int], every: int) -> list[int]:
 
 
 def parts_of(own: Sequence[int], values: Sequence[int]) -> list[list[int]]:
-    """Returns members of a class by their values, if several have the same."""
+    """Returns the groups of members with equal values that have more than one."""
     parts = collections.defaultdict(list)
     for literal, value in zip(own, values):
         parts[value].append(literal)
@@ -156,12 +163,15 @@ def parts_of(own: Sequence[int], values: Sequence[int]) -> list[list[int]]:
 
 
 class Different(Exception):
-    """A state in which the members of each class are equal is bad, or another that follows it."""
+    """A bad state was found in which the members of each class are equal, or one that follows such
+    a state."""
 
 
 class Classes:
-    """Literals of nodes in classes, of each of which the first stands for all; no literal is there
-    beside its inverse."""
+    """Classes of literals that may be equal. The first of a class represents it. A literal and its
+    inverse are never both in classes.
+
+    `every` has a bit for each run."""
 
     def __init__(self, nodes: Nodes, rng: random.Random, every: int | None = None) -> None:
         self.nodes, self.rng = nodes, rng
@@ -171,21 +181,21 @@ class Classes:
         self.every = every or (1 << (1 << runs.bit_length() - 1)) - 1
 
     def drawn(self, literals: Sequence[int]) -> list[int]:
-        """Returns random values for literals."""
+        """Returns a random value for each literal."""
         return [self.rng.getrandbits(self.every.bit_length()) for _ in literals]
 
     def size(self) -> int:
-        """Returns how many members aren't the first of their class."""
+        """Returns the number of members that aren't the first of their class."""
         return sum(map(len, self.rows)) - len(self.rows)
 
     def pairs(self) -> list[tuple[int, int]]:
-        """Returns the first of each class and every other member, in the order of these."""
+        """Returns pairs of the first of a class and another member, sorted by the latter."""
         return sorted(((own[0], other) for own in self.rows for other in own[1:]),
                       key=lambda pair: pair[1] >> 1)
 
     def members(self, known: Known) -> tuple[Iterable[int], Iterable[int], Sequence[int]]:
-        """Returns values of each member that isn't the first of its class, and of this first one;
-        and the numbers of their classes."""
+        """Returns the values of the first of its class for each other member, the values of these,
+        and the indices of their classes."""
         if self.listed is not self.rows:
             self.listed = self.rows
             pairs = [(own[0], it, number) for number, own in enumerate(self.rows) for it in own[1:]]
@@ -199,7 +209,7 @@ class Classes:
         return self.every ^ functools.reduce(operator.or_, map(operator.xor, firsts, others), 0)
 
     def split(self, known: Known, runs: int) -> None:
-        """Splits classes whose members differ in one of these runs."""
+        """Splits the classes whose members differ in one of these runs."""
         firsts, others, numbers = self.members(known)
         differing = map(operator.and_, map(operator.xor, firsts, others), itertools.repeat(runs))
         if hit := set(itertools.compress(numbers, differing)):
@@ -208,14 +218,16 @@ class Classes:
             self.rows = list(itertools.chain.from_iterable(rows))
 
     def gather(self, literals: Iterable[int], leaves: Sequence[int]) -> None:
-        """Puts literals, the first of which is 0, into classes, inverted where they are 1 in the
-        first run, by the values of leaves."""
+        """Puts literals into classes by the values of inputs and latches.
+
+        The first literal is 0. Literals that are 1 in the first run are inverted."""
         known = self.nodes.values(leaves, self.every)
         self.rows = [[literal ^ known[literal] & 1 for literal in literals]]
         self.split(known, self.nodes.allowed(known, self.every))
 
     def begin(self, literals: Iterable[int]) -> Classes:
-        """Puts literals into classes by random runs from the first states."""
+        """Puts literals into classes by random runs from initial states, and returns the
+        classes."""
         state = self.nodes.first(self.drawn(self.nodes.latches), self.every)
         leaves = [*self.drawn(self.nodes.inputs), *state]
         self.gather(literals, leaves)
@@ -223,8 +235,8 @@ class Classes:
         return self
 
     def of_first(self, stop: int) -> Classes:
-        """Returns the same of nodes among which are no others than those that a class with one
-        before a place has, and what these read."""
+        """Returns the classes that have a literal before `stop`, over the nodes that these depend
+        on."""
         rows, nodes = [own for own in self.rows if own[0] < stop], self.nodes
         read = itertools.chain(nodes.nexts, nodes.bads, nodes.constraints, *rows)
         nodes, known = nodes.without(nodes.cone(read))
@@ -233,15 +245,18 @@ class Classes:
         return made
 
     def check(self, known: Known, runs: int) -> int:
-        """Returns those of some runs in which constraints hold, none of which may be bad."""
+        """Returns those of the given runs that meet the constraints. Raises Different if one of
+        them is bad."""
         runs = self.nodes.allowed(known, runs)
         if any(known[bad] & runs for bad in self.nodes.bads):
             raise Different
         return runs
 
     def follow(self, leaves: Sequence[int], runs: int, steps: int = FOUND) -> None:
-        """Splits classes by so many steps, from these inputs and latches on, of runs that follow
-        states in which members are equal, unless some in a row split none."""
+        """Splits classes by simulating a number of steps from these inputs and latches.
+
+        In the given runs, members of classes are equal before these steps. Stops early after
+        several steps that split no class. Raises Different if a bad state is reached."""
         idle = 0
         for _ in range(steps):
             known, size = self.nodes.values(leaves, self.every), self.size()
@@ -253,15 +268,15 @@ class Classes:
             leaves = [*self.drawn(self.nodes.inputs), *self.nodes.following(known)]
 
     def settle(self) -> None:
-        """Splits classes of latches by steps from random states, until that splits none."""
+        """Splits classes of latches by steps from random states, until no class is split."""
         size = None
         while size != self.size():
             size = self.size()
             self.follow(self.merged(self.drawn(self.nodes.leaves()), self.every), self.every, DRAWN)
 
     def merged(self, leaves: Sequence[int], every: int) -> list[int]:
-        """Returns values of inputs and latches where those of a class have that of the first,
-        unless this is a gate."""
+        """Returns the values of inputs and latches in which members of a class have the value of
+        its first, unless that is a gate."""
         made = [0, *leaves]
         for first, *others in self.rows:
             if first < self.nodes.latches.stop:
@@ -272,7 +287,7 @@ class Classes:
         return made[1:]
 
     def spread(self, values: Iterable[int], runs: int) -> list[int]:
-        """Returns values of some of these runs, again and again."""
+        """Returns values in which some of these runs are repeated in all bits."""
         places = [place for place in range(self.every.bit_length()) if runs >> place & 1]
         count = 1 << min(len(places), FEWEST).bit_length() - 1
         times = self.every // ((1 << count) - 1)
@@ -284,8 +299,8 @@ class Classes:
         self.split(sides([*[0] * len(self.nodes.inputs), *state], self.every), runs)
 
     def beside(self, row: Sequence[int]) -> list[int]:
-        """Returns bits as the first of many runs, and in each other one with some of them inverted,
-        two to four as a rule."""
+        """Returns bits as the first run, and in each other run the same bits with a few of them
+        inverted."""
         made, count = [self.every * bit for bit in row], self.every.bit_length()
         if len(row) > MANY:
             for run in range(1, count):

@@ -1,16 +1,18 @@
-"""Two files that are compared: their miter, which aigedit makes, is asked about."""
+"""Compares two files by checking their miter, which aigedit generates."""
 from __future__ import annotations
 
 import copy
 from collections.abc import Iterable, Iterator, Mapping, Sequence
 
 from aigprove.circuits import simulation
-from aigprove.circuits.aiger import KINDS, Circuit, Fault, Header, Symbols, decoded
+from aigprove.circuits.aiger import Circuit, Fault, Header, Symbols, decoded
 from aigprove.circuits.minimal import SMALL, simulated
 from aigprove.circuits.simulation import SIMULATED
 from aigprove.circuits.witness import Witness
+from aigprove.data import message
 from aigprove.designs.front_ends import FRONTS, VERILOG, kind_of
 from aigprove.equality import matched
+from aigprove.equality.ends import NAMED, End, unmet
 from aigprove.equality.matched import SIGNALS, Starts, mismatch
 from aigprove.options.options import APART, BOTH, BY_NAME, COMPARED, FIRST, DesignOptions, Options
 from aigprove.output.evidence import Evidence
@@ -18,28 +20,29 @@ from aigprove.output.signals import Signals, word
 from aigprove.processes.files import Sealed
 from aigprove.processes.groups import BackgroundCall
 from aigprove.processes.scheduler import Stopped
-from aigprove.questions.checker import MISFIT, Checker, Claim, Question, Subject
+from aigprove.questions.checker import MISMATCH, Checker, Claim, Question, Subject
 from aigprove.questions.input_file import InputFile
 from aigprove.questions.target import Statements, Target
 
-# What stands behind lines, by what constraints say.
+# The text behind lines, by the value of `--constraints`.
 BEHIND = {BOTH: "", FIRST: ", under the constraints of the first alone",
           COMPARED: ", constraints too"}
-# How many outputs that differ are named, and how many seconds initial values are looked for that
-# matter.
-NAMED, SECONDS = 100, 1
-# How many values that both designs leave open are named, and how many signals of a kind that have
-# two names.
+# The seconds for finding initial values that don't matter.
+SECONDS = 1
+# The greatest number of undefined values, and of signals with two names, that are listed.
 FEW = 10
-# What a bad state property of the miter compares: None is the constraints.
+# The letter and position of what a bad state property of the miter compares; None for the
+# constraints.
 Compared = tuple[str, int] | None
 
 
 class Pair(Target):
-    """Two files, whose outputs and bad states are compared: their miter is asked about."""
+    """Two files, whose outputs and bad states are compared by their miter.
+
+    Raises Fault if a file is refused, or if their interfaces differ."""
 
     name, so_far = "miter.aag", "equal"
-    empty, can_be_simulated = "no output and no bad state property", False
+    empty, can_be_simulated = "nothing_to_compare", False
 
     def __init__(self, options: Options, above: str, checker: Checker) -> None:
         assert options.equal
@@ -50,7 +53,7 @@ class Pair(Target):
         designs = [it for it in [self.first, self.other] if it.design]
         for given, circuit in zip(designs, self.arranged([it.named() for it in designs])):
             given.take(Sealed(circuit.text()))
-        # Without constraints the option says nothing.
+        # Without constraints, the option has no meaning.
         self.constraints = BOTH
         if options.constraints and any(self.constrained()):
             self.constraints = options.constraints
@@ -60,14 +63,14 @@ class Pair(Target):
         if self.by_name:
             self.behind = f", {' and '.join(self.by_name)} matched by name"
             self.begin(way)
-        # From here on both circuits are seldom read.
+        # The circuits aren't kept: they are seldom needed again.
         self.by_position, self.known = list(self.lines_by_position()), None
 
     def read(self, options: Options, others: Sequence[str],
              above: str) -> tuple[InputFile, InputFile]:
-        """Returns both files, which are read side by side.
+        """Returns both files, which are read in parallel.
 
-        If the first can't be read, or a signal comes, no reading goes on."""
+        If the first can't be read, or a signal arrives, the other reading is stopped."""
         design = of_second(options.design, others)
         reading = BackgroundCall(InputFile, others, design._replace(is_quiet=True),
                                  above, self.checker, "other")
@@ -77,16 +80,16 @@ class Pair(Target):
         except BaseException as why:
             self.checker.task.scheduler.stop()
             reading.give_up()
-            # What was read for too long is told.
+            # A timeout of the second file is reported.
             raise (isinstance(why, Stopped) and reading.error) or why
-        second.say_left_out(design)
+        second.print_warnings(design)
         return first, second
 
     def arranged(self, designs: Sequence[tuple[Circuit, dict[int, list[str]]]]) -> list[Circuit]:
-        """Returns the circuits of designs, whose registers have the names that match them.
+        """Returns the circuits of designs with matching names of registers.
 
-        All names of registers are given. Of two the second's signals are in the order of the
-        first's."""
+        All names of registers are given. If both files are designs, the second one's signals get
+        the order of the first one's. Raises Fault if their names differ."""
         names = matched.chosen([own for _, own in designs])
         circuits = [matched.with_registers(circuit, own)
                     for (circuit, _), own in zip(designs, names)]
@@ -97,10 +100,10 @@ class Pair(Target):
         return [*circuits[:1], *(matched.arranged(circuit, known) for circuit in circuits[1:])]
 
     def put_in_order(self) -> list[str]:
-        """Puts the second file's signals in the order of the first's, and returns their kinds.
+        """Reorders the second file's signals if both files have the same names in another order,
+        and returns the kinds of signals that changed.
 
-        That is done for kinds of which both files have the same names in another order. All that
-        aigcheck says is then of the file that was made so."""
+        From then on, the reordered file is the one that is checked."""
         orders = matched.orders(*self.symbols())
         changed = {letter: places for letter, places in orders.items()
                    if places and places != sorted(places)}
@@ -110,69 +113,73 @@ class Pair(Target):
         return [SIGNALS[letter][0] for letter in changed]
 
     def begin(self, way: str) -> None:
-        """Makes the miter, with uninitialised registers that begin so."""
+        """Generates the miter. `way` says how the initial values of registers are matched."""
         words = self.called("miter", matched.SUFFIXES[way])
         try:
-            miter = self.checker.made(*words, self.first.file, self.other.file)
+            miter = self.checker.transformed(*words, self.first.file, self.other.file)
         except Fault as why:
-            if not str(why).startswith(MISFIT):
+            if not str(why).startswith(MISMATCH):
                 raise
             raise Fault(mismatch(self.paths, self.circuits())) from None
         self.subject = Subject(miter)
         circuits = [] if way == APART else self.circuits()
-        self.alone = list(matched.alone(way, self.paths, *circuits)) if circuits else []
+        self.unmatched = list(matched.unmatched(way, self.paths, *circuits)) if circuits else []
         self.starts = Starts(way, *circuits)
-        self.said = BEHIND[self.constraints] + self.starts.said
+        self.qualifier = BEHIND[self.constraints] + self.starts.qualifier
         _, bounded, window, _ = Statements()
-        self.lines = Statements("equal at step {k}" + self.said, bounded, window,
-                                "equal at every step" + self.said)
-        self.told = self.lines._replace(bounded=f"miter: {bounded}", window=f"miter: {window}")
+        self.lines = Statements("equal at step {k}" + self.qualifier, bounded, window,
+                                "equal at every step" + self.qualifier)
+        self.printed = self.lines._replace(bounded=f"miter: {bounded}", window=f"miter: {window}")
 
     def called(self, command: str, suffix: str) -> list[str]:
-        """Returns the words that begin a call of aigedit or aigcheck."""
+        """Returns the first words of a command of aigedit or aigcheck."""
         setting = ["--constraints", self.constraints] if self.constraints != BOTH else []
         return [*setting, command + suffix]
 
     def constrained(self) -> list[int]:
-        """Returns how many constraints both files have."""
+        """Returns the numbers of constraints of both files."""
         return [it.header().constraints for it in [self.first, self.other]]
 
     def latches(self) -> list[int]:
-        """Returns how many latches of the miter are of the first file, and how many of the other.
+        """Returns how many latches of the miter belong to each file.
 
-        Each has one more if constraints are compared, which is true while its own have held."""
+        If constraints are compared, each file has one more, which is true while its constraints
+        have held."""
         extra = self.constraints == COMPARED
         return [it.header().latches + extra for it in [self.first, self.other]]
 
     def circuits(self) -> list[Circuit]:
-        """Returns the circuits of both, which are read once while the miter is made."""
+        """Returns the circuits of both files, which are cached while the miter is generated."""
         self.known = self.known or [self.first.circuit(), self.other.circuit()]
         return self.known
 
     def symbols(self) -> Sequence[Circuit | Symbols]:
-        """Returns the names of both, of circuits that were read already if there are such."""
+        """Returns the headers and names of both files, from the circuits if they are cached."""
         if self.known:
             return self.known
         return [self.first.symbols(), self.other.symbols()]
 
-    def alike(self) -> Target | None:
+    def with_equal_starts(self) -> Target | None:
+        """Returns the same pair with matched initial values, if registers can be matched and aren't
+        yet."""
         if self.starts.partners:
             return None
         made, circuits = copy.copy(self), self.circuits()
-        if all(circuit.opened() for circuit in circuits):
+        if all(circuit.uninitialised() for circuit in circuits):
             made.begin(matched.way_by_names(circuits))
         return made if made.starts.partners else None
 
     def way(self) -> str:
+        """Returns how registers are matched, as the value of `--starts`."""
         return self.starts.way
 
     def up_to(self, k: int) -> str:
-        return super().up_to(k) + self.said + self.behind
+        """Returns the line that says that all steps up to `k` are equal, and under which
+        conditions."""
+        return super().up_to(k) + self.qualifier + self.behind
 
     def assumed(self, header: Header) -> int:
-        """Returns how many constraints both files have, or the first.
-
-        Registers can always start alike."""
+        """Returns the number of constraints of both files, or of the first."""
         first, other = self.constrained()
         return first if self.constraints == FIRST else first + other
 
@@ -186,37 +193,38 @@ class Pair(Target):
         return made
 
     def unsolvable(self, question: Question, proof: Sealed) -> Claim:
+        """Returns the claim that a query has no solution. At a single step it is a claim about both
+        files."""
         if question.command != "query":
             return super().unsolvable(question, proof)
         words = [str(question.k), question.name]
         return self.compares(self.lines.of(question), words, {question.name: proof})
 
     def unreached(self, command: str, words: Sequence[str], files: Mapping[str, Sealed]) -> Claim:
+        """Returns the claim that both files are equal at every step."""
         return self.compares(self.lines.safe, ["by"] * (command == "certified") + [*words], files)
 
     def started(self) -> dict[int, int]:
-        """Returns the latch of the miter, by its place, that each one starts like which does so."""
+        """Returns, by positions in the miter, the latch with the same initial value for each latch
+        that is matched."""
         count, _ = self.latches()
         return {count + i: partner for i, partner in self.starts.partners.items()}
 
     def compares(self, line: str, words: Sequence[str], proofs: Mapping[str, Sealed]) -> Claim:
-        """Returns what aigcheck says of both files."""
+        """Returns the claim that aigcheck checks about both files."""
         files = {self.first.name: self.first.file, self.other.name: self.other.file, **proofs}
         called = self.called("equal", self.starts.suffix)
         return Claim(line, [*called, self.first.name, self.other.name, *words], files)
 
     def compared(self) -> list[Compared]:
-        """Returns what each bad state property of the miter compares.
-
-        Those are outputs, and then bad state properties, by letter and position; before them are
-        constraints, if these are compared."""
+        """Returns what each bad state property of the miter compares: constraints, if these are
+        compared, then outputs and bad states, by letter and position."""
         header, both = self.first.header(), [None] * (self.constraints == COMPARED)
         counts = [("o", header.outputs), ("b", header.bads)]
         return [*both, *((letter, i) for letter, count in counts for i in range(count))]
 
     def circuit(self) -> Circuit:
-        """Returns the circuit of the miter, whose properties have the names of what they
-        compare."""
+        """Returns the circuit of the miter. Its properties have the names of what they compare."""
         circuit, first = self.checker.circuit(self.subject.file, "MITER"), self.first.circuit()
         circuit.names.update((("b", i), first.name(*place) if place else b"constraints")
                              for i, place in enumerate(self.compared()))
@@ -227,23 +235,20 @@ class Pair(Target):
         return circuit
 
     def warnings(self) -> Iterator[str]:
+        """Yields warnings about both files, and about their constraints."""
         yield from self.first.warnings()
         yield from self.other.warnings()
         first, other = self.constrained()
         if (first or other) and self.constraints != COMPARED:
-            said = "only runs that both files allow are compared"
-            if self.constraints == FIRST:
-                said = "those of the first say which runs are compared, those of the second nothing"
-            yield f"{self.path} have {first} and {other} constraints: {said}"
+            kind = "compared_first" if self.constraints == FIRST else "compared_runs"
+            yield message(kind, paths=self.path, first=first, other=other)
 
     def about(self) -> Iterator[str]:
-        """Yields lines of what isn't seen.
-
-        That is what is asked about designs, and how inputs, outputs and bad literals are
+        """Yields lines about designs, and about how registers, inputs, outputs and bad states are
         matched."""
         yield from self.first.about()
         yield from self.other.about()
-        yield from self.alone
+        yield from self.unmatched
         yield from self.same_free()
         for kind in self.by_name:
             yield f"{kind} are matched by name: those of the second file are checked in the " \
@@ -251,7 +256,7 @@ class Pair(Target):
         yield from self.by_position
 
     def lines_by_position(self) -> Iterator[str]:
-        """Yields lines of signals that have two names, of each kind the first ones."""
+        """Yields lines about signals that are matched by position, and have different names."""
         first, other = (it.names for it in self.symbols())
         for letter, (kind, _) in SIGNALS.items():
             places = sorted(place for place in first.keys() & other.keys()
@@ -264,8 +269,8 @@ class Pair(Target):
                     "names, too"
 
     def same_free(self) -> Iterator[str]:
-        """Yields the line of values that both designs leave open, and that are inputs of one
-        name."""
+        """Yields the line about undefined values that both designs have, and that are one input of
+        the miter."""
         free = [dict.fromkeys(it.design.left_open) for it in [self.first, self.other] if it.design]
         both = [word(name) for name in free[0] if name in free[1]] if len(free) == 2 else []
         if both:
@@ -274,7 +279,8 @@ class Pair(Target):
             yield f"both leave open, and have the same value for: {listed}"
 
     def others(self, circuit: Circuit, trace: Witness) -> list[Witness]:
-        """Returns witnesses of what else differs at the end of a run, or may if it is long."""
+        """Returns witnesses for what else differs at the end of a trace, or may differ if the trace
+        is too long to be simulated."""
         differing = list(range(len(circuit.bads)))
         if len(trace.steps) * len(circuit.gates) <= SIMULATED:
             *_, values = simulation.run(circuit, trace.start, trace.steps)
@@ -282,31 +288,33 @@ class Pair(Target):
         return [trace.showing(bad) for bad in differing[:NAMED] if bad != trace.bad]
 
     def mattering(self, traces: Sequence[Witness]) -> Sequence[Witness]:
-        """Returns those of constraints: if these differ nothing else is compared."""
+        """Returns the witnesses for constraints, if these differ, and otherwise all: nothing else
+        is compared then."""
         compared = self.compared()
         return [trace for trace in traces if compared[trace.bad] is None] or traces
 
     def found(self, signals: Signals, traces: Sequence[Witness]) -> str:
-        """Returns the line that says what differs in a run."""
+        """Returns the line that says what differs."""
         signals, compared = Signals(self.first.circuit()), self.compared()
         places = [compared[bad] for bad in sorted(trace.bad for trace in traces)]
         names = [signals.place(*place) if place else "constraints" for place in places]
         step = len(traces[0].steps) - 1
-        return f"a difference at step {step}{self.said}{self.behind}: {', '.join(names)}"
+        return f"a difference at step {step}{self.qualifier}{self.behind}: {', '.join(names)}"
 
     def lines_of_run(self, signals: Signals, circuit: Circuit, trace: Witness) -> Iterator[str]:
-        """Yields lines of a run, and of what differs at its end.
+        """Yields the lines of a trace, and of what differs at its end.
 
-        They are without values that registers have only to start alike."""
+        Initial values that matter only because registers start equal are left out."""
         trace = self.least(circuit, trace)
         yield from super().lines_of_run(signals, circuit, trace)
         if len(trace.steps) * len(circuit.gates) <= SIMULATED:
             yield from self.lines_of_end(circuit, trace)
 
     def lines_of_end(self, circuit: Circuit, trace: Witness) -> Iterator[str]:
-        """Yields lines of what differs at the end of a short run, with the values in both files.
+        """Yields lines about what differs at the end of a short trace, with the values in both
+        files.
 
-        If they depend on values of the run that don't matter, these are 0."""
+        If these depend on values that don't matter, such values are 0."""
         compared, shown = self.compared(), [trace, *self.others(circuit, trace)]
         places = [compared[it.bad] for it in self.mattering(shown)]
         if None in places:
@@ -318,7 +326,8 @@ class Pair(Target):
         yield from (f"{when} {line}" for line in filled)
 
     def values(self, places: Iterable[Compared], first: End, other: End) -> Iterator[str]:
-        """Yields lines of the values in both files of outputs, and of bad states, which differ."""
+        """Yields lines about outputs and bad states that differ, with their values in both
+        files."""
         if outputs := {place[1] for place in places if place and place[0] == "o"}:
             ours, theirs = first.outputs(outputs), other.outputs(outputs)
             yield f"the first file has {ours}, and the second {theirs}"
@@ -329,69 +338,43 @@ class Pair(Target):
                 yield f"{first.signals.place('b', i)} {verb} in the {which} file alone"
 
     def ends(self, trace: Witness) -> list[End]:
-        """Returns both files at the end of a run."""
+        """Returns both files at the end of a trace."""
         circuits = [self.first.circuit(), self.other.circuit()]
         return [End(*it, trace) for it in zip(circuits, [0, self.latches()[0]])]
 
     def least(self, circuit: Circuit, trace: Witness) -> Witness:
-        """Returns a run without initial values that matter only as registers start alike.
-
-        Of a short one simulations find that."""
+        """Returns a short trace without the initial values that matter only because registers start
+        equal. They are found by simulation."""
         if not self.starts.partners or len(trace.steps) * len(circuit.gates) > SMALL:
             return trace
         bads = [it.bad for it in self.mattering([trace, *self.others(circuit, trace)])]
         constraints = circuit.constraints[:-len(self.starts.partners)]
         own = circuit.with_lists(constraints=constraints)
-        found = simulated(own, trace, circuit.opened(), bads, SECONDS)
+        found = simulated(own, trace, circuit.uninitialised(), bads, SECONDS)
         start = list(found.start)
         for place, partner in self.started().items():
             start[partner] = start[partner] if start[place] == "x" else start[place]
         return found._replace(start="".join(start))
 
     def shown(self, circuit: Circuit, trace: Witness, read: set[int]) -> set[int]:
-        """Returns the latches whose first values are printed: of two that start alike the first."""
+        """Returns the positions of the latches whose initial values are printed. Of two with the
+        same initial value, it is the first file's."""
         partners = self.started()
         return {partners.get(place, place) for place in super().shown(circuit, trace, read)}
 
     def keep(self, evidence: Evidence) -> None:
+        """Writes both files and their miter into an evidence folder."""
         self.first.keep(evidence)
         self.other.keep(evidence)
         words = self.called("miter", self.starts.suffix)
         evidence.makes(self.name, self.subject.file, *words, self.first.name, self.other.name)
 
 
-class End:
-    """One of two files at the end of a run of their miter, whose latches from a place on are its
-    own: how its signals are printed, and the values of its literals."""
-
-    def __init__(self, circuit: Circuit, place: int, trace: Witness) -> None:
-        self.circuit, self.signals = circuit, Signals(circuit)
-        start = trace.start[place:place + len(circuit.latches)]
-        *_, self.literals = simulation.run(circuit, start, trace.steps)
-
-    def values(self, letter: str) -> list[str]:
-        """Returns the values of all signals of a kind."""
-        return [self.literals[literal] for literal in getattr(self.circuit, KINDS[letter])]
-
-    def outputs(self, places: set[int]) -> str:
-        """Returns the values of the outputs at these places, as they are printed."""
-        return " ".join(self.signals.values("o", self.values("o"), places))
-
-
-def unmet(*ends: End) -> Iterator[str]:
-    """Yields a line for each file whose constraints are seen not to hold at the end of a run."""
-    for which, end in zip(["first", "second"], ends):
-        broken = [i for i, value in enumerate(end.values("c")) if value == "0"]
-        if broken:
-            names = ", ".join(end.signals.place("c", i) for i in broken[:NAMED])
-            yield f"the {which} file doesn't meet {names}"
-
-
 def of_second(options: DesignOptions, paths: Sequence[str]) -> DesignOptions:
-    """Returns how the files are read with which another is compared.
+    """Returns the options for reading the second file, at these paths.
 
-    A top module, parameters and boxes are of FILE alone, and so is all else that is for designs, or
-    for those in Verilog, if this isn't one."""
+    The top module, parameters and black boxes only apply to FILE. Other options only apply if the
+    second file is a design, or one in Verilog."""
     own = options._replace(top=None, parameter=(), black_box=())
     kinds = [kind for path in paths if (kind := kind_of(path, b""))]
     if not any(FRONTS[kind] == VERILOG for kind in kinds):

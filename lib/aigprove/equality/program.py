@@ -1,18 +1,17 @@
-"""Runs a module of this folder, by its name and its words, as a program of its own.
-
-So what it computes keeps no thread of aigprove waiting."""
+"""Runs a module of this folder as a program, so that its computations don't block the threads of
+aigprove."""
 import importlib
 import os
 import sys
 
 
 def words_of(name: str, *words: str) -> list[str]:
-    """Returns the words that run a module."""
+    """Returns the command that runs a module with these arguments."""
     return [sys.executable, "-IS", os.path.realpath(__file__), name, *words]
 
 
 def main(name: str, *words: str) -> int:
-    """Runs a module, and returns its status."""
+    """Runs a module, and returns its status. Prints a Fault on standard error."""
     from aigprove.circuits.aiger import Fault
 
     try:

@@ -1,11 +1,13 @@
-"""Signals that correspond: a program that has ABC find which nodes of a circuit of two files are
-always equal, or each other's inverse, and prints a certificate that says so. Nothing here is
-believed."""
+"""Has ABC find nodes of a miter that are always equal, or each other's inverse, and prints a
+certificate that says so.
+
+This is a program of its own. aigcheck checks the certificate."""
 import collections
 import random
 from collections.abc import Iterable, Iterator
 
-from aigprove.circuits.aiger import Fault, Gates, Header, Lines, binary
+from aigprove.circuits.aiger import Fault, Header, Lines, binary
+from aigprove.circuits.gates import Gates
 from aigprove.equality import guesses
 from aigprove.equality.guesses import AHEAD, Guess, Guesses, Steps
 from aigprove.equality.incremental import IncrementalQueries, Pair
@@ -14,19 +16,19 @@ from aigprove.equality.nodes import Classes, Nodes
 from aigprove.output.messages import ending
 from aigprove.processes.files import Folder
 
-# What ABC does with a machine each of whose nodes is an output: it unites nodes of which a step
-# shows that they are always equal. With nodes of next steps it moves registers forward before that,
-# so that those of one time meet, and looks at two steps. Outputs are of one literal then, or of it
-# and its inverse.
+# The commands of ABC for a model in which each node is an output. `scorr` merges nodes that are
+# equal by induction. If nodes of further steps are included, registers are retimed first, so that
+# those of one time step meet, and two steps are considered. Afterwards, equal nodes are outputs of
+# one literal, or of it and its inverse.
 UNITE = "read_aiger nodes.aig; {}; write_aiger united.aig"
 PRESENT, MOVED = "scorr", "dretime -m; zero; scorr -F 2"
-# Classes of nodes of next steps alone are left out where at most this part of the gates is left
-# then. Else they stay: a step may keep the others with them alone.
+# Classes that only have nodes of further steps are left out if at most this part of the gates
+# remains. Otherwise they stay, because the other classes may only be inductive together with them.
 PART = 0.9
 
 
 def machine(nodes: Nodes) -> bytes:
-    """Returns a machine in binary form that has some nodes as its outputs, from the first latch on,
+    """Returns a model in binary AIGER format whose outputs are the nodes from the first latch on,
     and whose latches are 0 initially."""
     if any(nodes.resets):
         return begun(nodes)
@@ -35,23 +37,26 @@ def machine(nodes: Nodes) -> bytes:
 
 
 def begun(nodes: Nodes) -> bytes:
-    """Returns the same where latches are 1 initially, or open: the latch behind all others says
-    whether the machine has begun, and else an input is an open latch's value."""
+    """Returns the model of a circuit with latches that aren't 0 initially.
+
+    Its last latch says whether the model has taken a step. Before that, the value of an
+    uninitialised latch is that of a further input."""
     count, latches = len(nodes.inputs), len(nodes.latches)
-    opened = [i for i, reset in enumerate(nodes.resets) if reset > 1 and i not in nodes.alike]
-    first = 2 * (1 + count + len(opened))
+    uninitialised = [i for i, reset in enumerate(nodes.resets)
+                     if reset > 1 and i not in nodes.equal_starts]
+    first = 2 * (1 + count + len(uninitialised))
     own, gates = range(first, first + 2 * latches, 2), Gates(first + 2 * latches + 2)
-    free = dict(zip(opened, range(nodes.inputs.stop, first, 2)))
+    free = dict(zip(uninitialised, range(nodes.inputs.stop, first, 2)))
     start = nodes.first([free.get(i, 0) for i in range(latches)], 1)
     state = [latch ^ value if value < 2 else gates.choice(own.stop, latch, value)
              for latch, value in zip(own, start)]
     known = nodes.literals([*nodes.inputs, *state], gates)
     nexts = [literal ^ (value == 1) for literal, value in zip(nodes.following(known), start)]
-    return binary(count + len(opened), [*nexts, 1], known[nodes.latches.start::2], gates)
+    return binary(count + len(uninitialised), [*nexts, 1], known[nodes.latches.start::2], gates)
 
 
 def outputs(data: bytes) -> list[int]:
-    """Returns the literals of the outputs of a file in binary form."""
+    """Returns the literals of the outputs of a binary AIGER file."""
     lines = Lines(data, "ABC's file")
     header = Header(lines)
     lines.skip(header.latches)
@@ -59,8 +64,8 @@ def outputs(data: bytes) -> list[int]:
 
 
 def rows(nodes: Nodes, literals: Iterable[int]) -> list[list[int]]:
-    """Returns classes of nodes, by what stands for each from the first latch on; that of 0 is the
-    first one."""
+    """Returns the classes of nodes, given the literals of the nodes from the first latch on. The
+    class of the constant is the first one."""
     found = collections.defaultdict(list, {0: [0]})
     for node, literal in zip(range(nodes.latches.start, nodes.all().stop, 2), literals):
         found[literal & ~1].append(node ^ literal & 1)
@@ -68,28 +73,29 @@ def rows(nodes: Nodes, literals: Iterable[int]) -> list[list[int]]:
 
 
 class Found(Steps):
-    """Classes that ABC found, which random steps don't split.
-
-    That a step keeps them may be taken as it is."""
+    """Classes that ABC has found, which aren't split by random steps. If `is_taken`, they are
+    assumed to be inductive."""
 
     def __init__(self, classes: Classes, solver: IncrementalQueries, is_taken: bool) -> None:
         super().__init__(classes, solver)
         self.is_taken = is_taken
 
     def pairs(self) -> list[Pair]:
+        """Returns the pairs of equal nodes, unchecked if `is_taken`."""
         return self.classes.pairs() if self.is_taken else super().pairs()
 
     def settle(self) -> None:
+        """Sorts the nodes, and splits no class."""
         self.order = ordered(self.classes)
 
 
 class FoundSignals(Guesses):
-    """What ABC finds to be equal in a circuit of two files."""
+    """The nodes of a miter that ABC finds to be equal."""
 
     def guesses(self) -> Iterator[Guess]:
-        """Yields nodes, if the files have as many latches, and those of the next steps with them,
-        if nothing bad is left."""
-        # ABC moves no registers if there are none.
+        """Yields a guess about nodes of one step, if the files have the same number of latches, and
+        one that includes further steps; each only if no bad state is left."""
+        # Without registers there are no further steps.
         ways = [*[0] * (self.counts[0] == self.counts[1]),
                 max(AHEAD)] if self.circuit.latches else []
         for steps in ways:
@@ -103,17 +109,17 @@ class FoundSignals(Guesses):
                 yield Found(fewer if is_less else classes, self.solver, self.given["is_taken"])
 
     def united(self, nodes: Nodes, commands: str) -> list[int]:
-        """Returns what stands for each node, from the first latch on, in the circuit that commands
-        of ABC leave."""
+        """Returns the literal of each node, from the first latch on, in the circuit that ABC's
+        commands leave. Raises Fault if ABC fails."""
         with Folder(self.solver.above) as folder:
             with folder.make("nodes.aig") as out:
                 out.write(machine(nodes))
             if status := folder.run(self.solver.task,
                                     [self.given["abc"], "-q", UNITE.format(commands)]):
-                raise Fault(f"ABC {ending(status)}")
+                raise Fault.of("abc_ended", ending=ending(status))
             return outputs(folder.taken("united.aig", "circuit").data())
 
 
 def main(folder: str, asked: str) -> int:
-    """Prints the certificate of what ABC finds to be equal."""
+    """Prints the certificate of the nodes that ABC finds to be equal."""
     return guesses.run(FoundSignals, folder, asked)

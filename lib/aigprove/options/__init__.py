@@ -1,1 +1,1 @@
-"""The command line: its arguments, and the options that they stand for."""
+"""Parses the command line."""

@@ -1,20 +1,20 @@
-"""The options of a command line, which don't change."""
+"""The options of a command line, which never change."""
 from typing import NamedTuple
 
 from aigprove.processes.files import Sealed
 
-# What cadical is told for a proof with hints.
+# The option of cadical for a proof with hints.
 HINTED = "--lrat=1"
-# How registers with open start begin: each as it likes, or like that of the other file which is
-# matched so.
+# The values of `--starts`: the initial values of uninitialised registers are independent, or equal
+# to those of the register of the other file that is matched by order or by name.
 APART, BY_ORDER, BY_NAME = STARTS = ["apart", "by-order", "by-name"]
-# What constraints say: compared runs meet those of both files, or those of the first alone, or they
-# are compared, too.
+# The values of `--constraints`: compared runs meet those of both files, or those of the first only,
+# or the constraints are compared, too.
 BOTH, FIRST, COMPARED = CONSTRAINTS = ["both", "first", "compared"]
 
 
 class Reset(NamedTuple):
-    """A reset in the first steps."""
+    """A reset: the signal, its active value, and the number of steps for which it is held."""
 
     signal: str
     value: int
@@ -26,7 +26,7 @@ class Reset(NamedTuple):
 
 
 class DesignOptions(NamedTuple):
-    """How a design is read."""
+    """The options for reading a design."""
 
     top: str | None
     define: tuple[tuple[str, str], ...]
@@ -34,11 +34,11 @@ class DesignOptions(NamedTuple):
     parameter: tuple[tuple[str, str], ...]
     black_box: tuple[str, ...]
     multiclock: bool
-    # Whether $stop and $fatal are assertions.
+    # Whether `$stop` and `$fatal` are assertions.
     stops: bool
     reset: Reset | None
-    # The type of the cells that are asked about, and those of others that get a question of
-    # their own later.
+    # The type of the cells that are checked, and the types of those that another query checks
+    # later.
     kind: str
     later: frozenset[str]
     is_compared: bool
@@ -47,7 +47,7 @@ class DesignOptions(NamedTuple):
 
 
 class SolverOptions(NamedTuple):
-    """How a SAT solver is called. There are no words if cadical isn't installed."""
+    """The command of the SAT solver. `words` is empty if cadical isn't installed."""
 
     words: tuple[str, ...]
     is_cadical: bool
@@ -56,13 +56,13 @@ class SolverOptions(NamedTuple):
     def takes_turns(self) -> bool:
         """Returns whether the solver is asked about one step after the other.
 
-        A proof with hints is checked in far less time than a proof of steps in turn, which has
-        no hints."""
+        cadical is, unless its version writes hints: checking a proof with hints takes far less time
+        than checking one of incremental queries, which has none."""
         return self.is_cadical and HINTED not in self.words
 
 
 class Programs(NamedTuple):
-    """The paths of the programs that are trusted."""
+    """The paths of the trusted programs."""
 
     aigtool: str
     aigedit: str
@@ -70,18 +70,18 @@ class Programs(NamedTuple):
 
 
 class Options(NamedTuple):
-    """What a command line asks for. Files that are checked are sealed copies."""
+    """The options of a command line. Files that are checked are immutable copies."""
 
     files: tuple[str, ...]
     design: DesignOptions
     solver: SolverOptions
     programs: Programs
-    # A path of ABC, if one is given.
+    # The path of ABC, if it is given.
     abc: str | None
-    # The engines that are asked, and whether they were named.
+    # The engines, and whether `--engine` names them.
     engines: tuple[str, ...]
     are_engines_named: bool
-    # Which question is asked.
+    # The query.
     equal: tuple[str, ...] | None
     starts: str | None
     constraints: str | None
@@ -89,21 +89,21 @@ class Options(NamedTuple):
     justice: int | None
     certificate: Sealed | None
     run: Sealed | None
-    # Whether each property is asked about, and what is written of the table.
+    # The table: whether each property is checked by itself, and what is written.
     each: bool
     shortest: bool
     tasks: bool
     gather: str | None
     json: str | None
     junit: str | None
-    # How long, and how far.
+    # Limits of time, steps, memory and processes.
     bound: int | None
     timeout: float | None
     deadline: float
     limit: int | None
     memory: int | None
     jobs: int
-    # What is printed and written.
+    # Output.
     verbose: bool
     quiet: bool
     aiger: bool

@@ -1,9 +1,9 @@
-"""The texts about the command line of aigprove, each of which is written once.
+"""The texts about the command line, from which the help text, the man page and the tables of the
+reference are generated.
 
-The help text, the man page and the tables of the reference are made of them. `options.txt` has a
-section for each need, with a row for each option: its flags, its value, what it does, and what
-holds without it. `engines.txt` has a row for each engine, `statuses.txt` one for each exit
-status."""
+`options.txt` has a section for each topic, with a row for each option: its flags, its value, what
+it does, and its default. `engines.txt` has a row for each engine, and `statuses.txt` one for each
+exit status."""
 from typing import NamedTuple
 
 from aigprove.data import text
@@ -18,12 +18,12 @@ class Option(NamedTuple):
     default: str
 
     def help_text(self) -> str:
-        """Returns what it does, with its default."""
+        """Returns its help text, with its default."""
         return f"{self.does} (default: {self.default})" if self.default else self.does
 
 
 class Section(NamedTuple):
-    """The options for one need."""
+    """The options for one topic."""
 
     title: str
     options: list[Option]
@@ -40,19 +40,19 @@ class Engine(NamedTuple):
 
 
 class Status(NamedTuple):
-    """An exit status, and when it comes."""
+    """An exit status, and when it occurs."""
 
     number: str
     when: str
 
 
 def rows(name: str) -> list[list[str]]:
-    """Returns the rows of a table that stands in a file of this folder."""
+    """Returns the rows of a table in a file of this folder."""
     return [line.split("\t") for line in text(f"options/{name}.txt").splitlines()]
 
 
 def sections() -> list[Section]:
-    """Returns the options, by need."""
+    """Returns the options, by topic."""
     found: list[Section] = []
     for flags, *cells in rows("options"):
         if flags.startswith("# "):

@@ -1,1 +1,1 @@
-"""What is printed, written and kept: signals, tables, dumps and evidence."""
+"""What aigprove prints and writes: signals, tables, value change dumps and evidence."""

@@ -1,9 +1,9 @@
 #!/bin/sh
 "exec" "python3" "-IS" "--" "$0" "$@"
-# Shows again what aigprove printed. The commands in evidence.json, and in that of its folders, are
-# run by the aigcheck and aigedit that AIGCHECK and AIGEDIT name, or that are found. This script has
-# the same bytes in each folder, and what stands in evidence.json is given to these programs alone,
-# as words.
+# Checks again what aigprove printed. It runs the commands in evidence.json, and in that of the
+# subfolders, by aigcheck and aigedit: those that AIGCHECK and AIGEDIT name, or those in PATH. This
+# script has the same bytes in each folder. What is in evidence.json is only passed to these
+# programs, as arguments.
 import hashlib
 import json
 import os
@@ -12,30 +12,31 @@ import subprocess
 import sys
 from typing import Any, NoReturn
 
-# Lines that aigcheck printed, in the order of the evidence, and then those of a table, or the one
-# that says that the answer is vacuous, which rest on these.
+# The lines that aigcheck printed, in order, followed by those of a table, or by the line that says
+# that the answer is vacuous: these follow from the others.
 Lines = list[str]
 
 
 def plain(text: str) -> str:
-    """Returns a text as one line that can't drive a terminal."""
+    """Returns a text as one line. Characters that aren't printable become escapes."""
     return "".join(sign if sign.isprintable() else ascii(sign)[1:-1] for sign in text)
 
 
 def fail(what: str) -> NoReturn:
-    """Ends with what isn't shown."""
+    """Prints what couldn't be checked, and exits with status 1."""
     print(f"not shown: {plain(what)}", file=sys.stderr)
     sys.exit(1)
 
 
 def program(name: str) -> str:
-    """Returns the path of a program, which may be named by its place from where we stand."""
+    """Returns the path of a program. An environment variable may give it, relative to the present
+    folder."""
     given = os.environ.get(name.upper()) or name
     return os.path.abspath(shutil.which(given) or fail(f"{given} is not there"))
 
 
 def check_files(folder: str, sums: dict[str, str]) -> None:
-    """Ends if a file isn't the one that was kept."""
+    """Exits with status 1 if a file has another checksum than in evidence.json."""
     for name, wanted in sums.items():
         given = hashlib.sha256()
         with open(os.path.join(folder, name), "rb") as file:
@@ -46,7 +47,9 @@ def check_files(folder: str, sums: dict[str, str]) -> None:
 
 
 def shown(folder: str, limit: list[str], step: dict[str, Any]) -> Lines:
-    """Returns the line of a step of the evidence, once a program has shown it."""
+    """Runs the command of a step, and returns the line that it checks.
+
+    Exits with status 1 if the command prints something else. `limit` is the option --limit."""
     words = [program("aigcheck" if "shows" in step else "aigedit"), *limit, *step["by"]]
     done = subprocess.run(words, cwd=folder, stdin=subprocess.DEVNULL, stdout=subprocess.PIPE)
     if "shows" in step:
@@ -60,7 +63,7 @@ def shown(folder: str, limit: list[str], step: dict[str, Any]) -> Lines:
 
 
 def check(folder: str) -> Lines:
-    """Returns the lines that are shown in a folder."""
+    """Returns the lines that are checked in a folder and its subfolders."""
     with open(os.path.join(folder, "evidence.json"), encoding="utf-8") as file:
         kept = json.load(file)
     limit = [] if kept["limit"] is None else ["--limit", str(kept["limit"])]
@@ -75,7 +78,7 @@ def check(folder: str) -> Lines:
 
 
 def main() -> None:
-    """Prints the lines that are shown in this script's folder."""
+    """Prints the lines that are checked in this script's folder."""
     try:
         lines = check(os.path.dirname(os.path.abspath(__file__)))
     except (OSError, ValueError, LookupError, TypeError, AttributeError) as why:

@@ -1,6 +1,6 @@
-"""What was kept of answers, here before or on another machine.
+"""Collects earlier answers from an evidence folder, written here or on another machine.
 
-Each line is believed once aigcheck prints it again, of the file that is asked about now."""
+A line counts once aigcheck has printed it again, for the file that is checked now."""
 import json
 import os
 import re
@@ -10,6 +10,7 @@ from typing import Any, NamedTuple
 
 from aigprove.circuits.aiger import Fault
 from aigprove.circuits.witness import Witness, read_for
+from aigprove.data import message
 from aigprove.engines.separate import SeparateProperties
 from aigprove.output.evidence import ABOVE, EVIDENCE, EvidenceFolder
 from aigprove.output.messages import reason, say
@@ -19,35 +20,36 @@ from aigprove.processes.scheduler import for_each
 from aigprove.questions.checker import Checker, Claim, header_of
 from aigprove.questions.target import Statements, statements_about
 
-# The commands of aigcheck whose lines say something of one file, and what may stand before them: a
-# word and a number.
+# The commands of aigcheck about a single file; the options that may precede them, each with a
+# number; and patterns of a file's and an engine's name.
 COMMANDS = {"refuted", "inductive", "certified", "run", "safe"}
 CHOOSING, COUNT = {"--property", "--justice", "--rounds"}, re.compile("[0-9]{1,9}")
 NAME = re.compile(r"[A-Za-z0-9_][A-Za-z0-9_.-]*")
 ENGINE = re.compile(r"[a-z0-9]{1,20}")
-# What shows a property: the letter of its kind, and its number.
+# The line about a trace: the letter and the number of its property.
 RUN = re.compile("([bj])([0-9]{1,9}) (?:at step [0-9]+|in a loop from step [0-9]+ to [0-9]+)")
-# What is kept of assumptions, which are looked at anew.
+# Evidence about assumptions, which are checked anew.
 ASSUMED = {"--possible", "--endless"}
 OF_ASSUMED = ("possible.aag", "endless.aag")
 
 
 def taken(path: str, limit: int) -> Sealed:
-    """Returns a sealed copy of a regular file, of at most so many nodes."""
+    """Returns an immutable copy of a regular file. Raises Fault if it can't be read, or is too
+    large for `limit` nodes."""
     try:
         file = opened(path)
     except OSError as why:
-        raise Fault(f"{path}: {why.strerror}") from None
+        raise Fault.of("of_file", path=path, why=why.strerror) from None
     with file:
         status = os.fstat(file.fileno())
         if not stat.S_ISREG(status.st_mode) or status.st_size > NODE * limit:
-            raise Fault(f"{path} is no file of at most {NODE * limit} bytes")
+            raise Fault.of("not_small_file", path=path, most=NODE * limit)
         return Sealed(file)
 
 
 class Line(NamedTuple):
-    """A line that is kept in a folder, the words that show it, and which engine answered after how
-    many seconds, as is noted there."""
+    """A line in an evidence folder, its command, and the engine that answered and after how many
+    seconds. `part` is the subfolder."""
 
     part: str
     line: str
@@ -56,8 +58,8 @@ class Line(NamedTuple):
     seconds: float | None = None
 
     def parted(self) -> tuple[dict[str, str], Sequence[str]]:
-        """Returns the numbers that stand before the command by the words before them, and the
-        other words."""
+        """Returns the numbers of the options in front of the command, by option, and the command
+        with its arguments."""
         chosen, left = dict[str, str](), list(self.words)
         while left and left[0] in CHOOSING and COUNT.fullmatch("".join(left[1:2])):
             chosen[left[0]], left = left[1], left[2:]
@@ -65,7 +67,8 @@ class Line(NamedTuple):
 
 
 class Found(NamedTuple):
-    """What a line that was checked is about: a property, unless it is about all, and its run."""
+    """A line that was checked: its properties, the number of one if it isn't about all, and the
+    trace if it is about one."""
 
     part: SeparateProperties | None
     number: int | None
@@ -74,8 +77,9 @@ class Found(NamedTuple):
 
 
 def lines_in(folder: str, part: str, limit: int) -> list[Line]:
-    """Returns the lines of what is kept in a part of a folder: those of a table are in its
-    parts."""
+    """Returns the lines in a subfolder `part`. A table has none of its own: they are in its parts.
+
+    Raises Fault if the file is malformed."""
     try:
         kept = json.loads(taken(os.path.join(folder, part, EVIDENCE), limit).data())
         steps = [] if kept["table"] is not None else kept["steps"]
@@ -83,42 +87,42 @@ def lines_in(folder: str, part: str, limit: int) -> list[Line]:
         if not all(isinstance(it, str) for line, by in shown for it in [line, *by]):
             raise ValueError
     except (ValueError, LookupError, TypeError, RecursionError):
-        raise Fault(f"{part or folder}: {EVIDENCE} has another form") from None
+        raise Fault.of("bad_evidence", folder=part or folder, file=EVIDENCE) from None
     noted = answered_by(kept)
     return [Line(part, line, by, *noted) for line, by in shown]
 
 
 def answered_by(kept: dict[str, Any]) -> tuple[str, float | None]:
-    """Returns which engine answered after how many seconds, if that is noted."""
+    """Returns the recorded engine and seconds, or "" and None."""
     engine, seconds = kept.get("engine"), kept.get("seconds")
     is_noted = isinstance(engine, str) and ENGINE.fullmatch(engine)
     return (str(engine), seconds) if is_noted and isinstance(seconds, (int, float)) else ("", None)
 
 
 class Gathered:
-    """What a folder has about some files, whose properties and answers are known."""
+    """The answers in a folder about the properties `parts`."""
 
     def __init__(self, folder: str, parts: Sequence[SeparateProperties],
                  checker: Checker) -> None:
         self.folder, self.parts, self.checker = folder, parts, checker
-        # Of which parts each file is the one that is asked about.
+        # The properties whose file has the same bytes, by a file's path.
         self.known: dict[str, list[SeparateProperties]] = {}
         self.found: list[Found] = []
 
     def places(self) -> list[str]:
-        """Returns the folders in it in which something is kept, and itself, if that is so."""
+        """Returns the subfolders with evidence, and "" if the folder itself has some."""
         names = sorted(entry.name for entry in os.scandir(self.folder)
                        if entry.is_dir(follow_symlinks=False))
         return [part for part in ["", *names]
                 if os.path.isfile(os.path.join(self.folder, part, EVIDENCE))]
 
     def part_of(self, name: str, folder: str, option: str) -> SeparateProperties:
-        """Returns which of the files that are asked about now a file of this name is.
+        """Returns the properties that `option` selects, and whose file is the one of this name.
 
-        It is asked about by this option; the name is one that a folder has."""
+        Raises Fault if the file isn't one that is checked now."""
         base = os.path.basename(name)
         if not NAME.fullmatch(base):
-            raise Fault(f"{name} is no name of a file")
+            raise Fault.of("bad_file_name", name=name)
         path = os.path.join(self.folder, "" if name.startswith(ABOVE) else folder, base)
         if path not in self.known:
             data = taken(path, self.checker.limit).data()
@@ -126,13 +130,13 @@ class Gathered:
         for part in self.known[path]:
             if part.source.option == option:
                 return part
-        raise Fault(f"{name} is another file than what is asked about")
+        raise Fault.of("another_file", name=name)
 
     def claim(self, line: Line, file: Sealed) -> Claim:
-        """Returns the claim of a line about a file, with the files of its folder."""
+        """Returns the claim of a line about a file. Its other files are read from the folder."""
         _, (command, _, *words) = line.parted()
         if command not in COMMANDS:
-            raise Fault(f"{command} is no command that shows an answer")
+            raise Fault.of("bad_command", command=command)
         paths = {word: os.path.join(self.folder, line.part, word)
                  for word in words if NAME.fullmatch(word)}
         given = {word: taken(path, self.checker.limit) for word, path in paths.items()
@@ -140,12 +144,14 @@ class Gathered:
         return Claim(line.line, self.named(line, "FILE", words), {**given, "FILE": file})
 
     def named(self, line: Line, name: str, words: Iterable[str]) -> list[str]:
-        """Returns the words that show a line about a file of this name, which end so."""
+        """Returns the command that checks a line, for a file of this name and with these further
+        arguments."""
         chosen, (command, *_) = line.parted()
         return [*(it for pair in chosen.items() for it in pair), command, name, *words]
 
     def checked(self, line: Line) -> Found | None:
-        """Returns what a line is about, once aigcheck prints it."""
+        """Returns what a line is about, after aigcheck has printed it again; None, after a message,
+        if aigcheck doesn't."""
         try:
             chosen, left = line.parted()
             run = RUN.fullmatch(line.line)
@@ -154,18 +160,18 @@ class Gathered:
             number = run[2] if run else chosen.get(f"--{option}")
             part = self.part_of(left[1], line.part, option)
             if number is not None and int(number) >= len(part.answers):
-                raise Fault(f"there is no {option} {number}")
+                raise Fault.of("no_such_property", option=option, number=number)
             claim = self.claim(line, part.source.subject.file)
             self.checker.check(claim)
             trace = trace_of(claim, run[1]) if run else None
             return Found(part, None if number is None else int(number), line, trace)
         except (Fault, OSError) as why:
             place = os.path.join(self.folder, line.part)
-            say(f"{place}: not shown: {line.line}: {reason(why)}")
+            say(message("not_shown", folder=place, line=line.line, why=reason(why)))
             return None
 
     def lines(self) -> Iterator[Line]:
-        """Yields the lines of all parts that are about files, but for those of assumptions."""
+        """Yields the lines of all subfolders, except those about assumptions."""
         for part in self.places():
             try:
                 lines = lines_in(self.folder, part, self.checker.limit)
@@ -178,7 +184,8 @@ class Gathered:
                     yield line
 
     def take(self, jobs: int) -> None:
-        """Has all lines checked, several at once, and puts what follows into the answers."""
+        """Checks all lines, `jobs` at a time, and enters what follows from them into the
+        answers."""
         found = for_each(list(self.lines()), jobs, self.checked)
         self.found = [it for it in found if it]
         for part in self.parts:
@@ -187,7 +194,7 @@ class Gathered:
                                   and it.number in (None, answer.number)])
 
     def keep(self, folder: EvidenceFolder) -> None:
-        """Has the whole folder show what was checked, by no line of another."""
+        """Adds the checked lines to another evidence folder, which contains this one."""
         for line, part in ((found.line, found.part) for found in self.found):
             assert part
             _, (_, _, *words) = line.parted()
@@ -195,21 +202,20 @@ class Gathered:
             folder.add(shows=line.line, by=self.named(line, part.source.name, words))
 
     def placed(self, part: str, word: str) -> str:
-        """Returns a word of a part as it is called from the whole folder."""
+        """Returns an argument of a subfolder's command as the enclosing folder calls it."""
         is_file = NAME.fullmatch(word) and os.path.lexists(os.path.join(self.folder, part, word))
         return os.path.join(part, word) if is_file else word
 
 
 def trace_of(claim: Claim, letter: str) -> Witness:
-    """Returns the witness of a claim about a run to a property of this kind."""
+    """Returns the witness in a claim about a trace. `letter` is that of its property's kind."""
     *_, name = claim.words
     return read_for(claim.files[name].data(), header_of(claim.files["FILE"]), letter)
 
 
 def conclude(answer: PropertyAnswer, found: Sequence[Found]) -> None:
-    """Takes what follows of a property from lines that were checked.
-
-    They are about it, or about all properties of its file."""
+    """Enters what follows for a property from checked lines, which are about it or about all
+    properties of its file."""
     answer.parts += dict.fromkeys(it.line.part for it in found)
     is_fair = answer.letter == "j"
     every = [statements_about(answer.letter, answer.number), *[Statements()] * (not is_fair)]

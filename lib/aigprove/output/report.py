@@ -1,4 +1,4 @@
-"""What became of each property, and how that is printed and written for other programs."""
+"""The answer to each property, as a table, JSON and JUnit XML."""
 from __future__ import annotations
 
 import dataclasses
@@ -14,8 +14,8 @@ from aigprove.processes.files import write
 if TYPE_CHECKING:
     import xml.etree.ElementTree as xml
 
-# What kinds of property there are, by the letter of their numbers, and how their answers are
-# spelled: none at any step, one at a step, and neither.
+# The kinds of properties by letter, and the words for their answers: unreachable, reachable, and
+# undecided.
 KINDS = {"b": "assertion", "j": "justice", "c": "cover"}
 SPELLED = {
     "b": {"holds": "holds", "reached": "fails at step {step}", "open": "undecided"},
@@ -23,13 +23,13 @@ SPELLED = {
     "c": {"holds": "can't be covered", "reached": "covered at step {step}", "open": "undecided"},
 }
 TITLES = ["property", "name", "place", "answer", "step", "engine", "seconds"]
-# How the names of answers are written for other programs.
+# The words for answers in JSON.
 WRITTEN = {
     "b": {"holds": "holds", "reached": "fails", "open": "undecided"},
     "j": {"holds": "unmet", "reached": "met", "open": "undecided"},
     "c": {"holds": "impossible", "reached": "covered", "open": "undecided"},
 }
-# What JUnit has of answers with which a case didn't pass.
+# JUnit's element for a test case that didn't pass.
 CASES = {
     **dict.fromkeys([("b", "reached"), ("j", "reached")], "failure"),
     **dict.fromkeys([("b", "open"), ("j", "open"), ("c", "open"), ("c", "holds")], "skipped"),
@@ -38,11 +38,12 @@ CASES = {
 
 @dataclasses.dataclass
 class PropertyAnswer:
-    """A property: the letter of its kind, its number, and its name and place, if it has these.
+    """A property and its answer.
 
-    And what is known of it: how many steps from 0 on don't reach it, whether none does, or the
-    witness of a run that does, which engine found that, after how many seconds, and the folders of
-    what shows it."""
+    The property has a letter for its kind, a number and, in some files, a name and a source
+    location. `steps` is the number of steps, from 0 on, at which it isn't reached. If `is_safe`, no
+    step reaches it; `trace` is the witness of a trace that does. `engine` and `seconds` say which
+    engine answered and when, and `parts` are the folders with evidence."""
 
     letter: str
     number: int
@@ -57,25 +58,25 @@ class PropertyAnswer:
 
     @property
     def is_answered(self) -> bool:
-        """Whether it is known that a step reaches it, or that none does."""
+        """Whether it is decided."""
         return self.is_safe or self.trace is not None
 
     @property
     def state(self) -> str:
-        """Which of the answers it has."""
+        """The key of its answer in SPELLED."""
         return "reached" if self.trace else "holds" if self.is_safe else "open"
 
     @property
     def step(self) -> int | None:
-        """The step at which it is reached, or up to which it isn't, if there is such a step."""
+        """The step at which it is reached, or the last one up to which it isn't, or None."""
         if self.trace:
             return len(self.trace.steps) - 1
         return None if self.is_safe or not self.steps else self.steps - 1
 
     def take(self, trace: Witness | None, engine: str, seconds: float | None) -> None:
-        """Takes that it isn't reached, or a run that reaches it.
+        """Records an answer: a trace, or None if the property is never reached.
 
-        That counts if there was no answer or a longer run."""
+        It counts if there was none yet, or if the trace is shorter."""
         is_shorter = trace and self.trace and len(trace.steps) < len(self.trace.steps)
         if not self.is_answered or is_shorter:
             self.is_safe, self.trace = trace is None, trace
@@ -90,7 +91,7 @@ class PropertyAnswer:
         return f"{spelled} up to step {self.step}" if is_partial else spelled
 
     def cells(self, is_empty: bool) -> list[str]:
-        """Returns the cells of its row."""
+        """Returns the cells of its row. `is_empty` says that no run meets the assumptions."""
         step = "-" if self.step is None else str(self.step)
         seconds = "-" if self.seconds is None else f"{self.seconds:.1f}"
         said = self.text() + " (empty)" * (is_empty and self.state == "holds")
@@ -99,7 +100,7 @@ class PropertyAnswer:
         return [*(cell or "-" for cell in shown), step, self.engine or "-", seconds]
 
     def fields(self, is_empty: bool) -> dict[str, object]:
-        """Returns its fields for other programs."""
+        """Returns its fields in JSON. `is_empty` says that no run meets the assumptions."""
         return {
             "property": f"{self.letter}{self.number}",
             "number": self.number,
@@ -117,10 +118,10 @@ class PropertyAnswer:
 
 @dataclasses.dataclass
 class Report:
-    """All answers about a file, and what is known of its assumptions.
+    """All answers about a file, and what is known about its assumptions.
 
-    That is how many there are, the last step up to which they were seen to be met, the first at
-    which they can't be, and the line that says so."""
+    `constraints` is their number, `met` the last step up to which they are known to be met, `unmet`
+    the first from which they can't be met, and `line` the printed line about that."""
 
     path: str
     answers: list[PropertyAnswer]
@@ -132,13 +133,12 @@ class Report:
 
     @property
     def is_empty(self) -> bool:
-        """Whether no run meets the assumptions from a step on."""
+        """Whether no run meets the assumptions."""
         return self.unmet is not None
 
     def status(self) -> str:
-        """Returns what follows of all assertions and justice properties.
-
-        That is that one fails, or has a fair run, that none does, or neither."""
+        """Returns "fails" if an assertion fails or a justice property has a fair run, "holds" if
+        all are proved, and otherwise "undecided"."""
         states = {answer.state for answer in self.answers if answer.letter != "c"}
         if "reached" in states:
             return "fails"
@@ -152,7 +152,7 @@ class Report:
                 for row in rows]
 
     def json(self) -> str:
-        """Returns its text in JSON."""
+        """Returns the report in JSON."""
         assumptions = {"count": self.constraints, "met_up_to": self.met, "unmet_from": self.unmet}
         made: dict[str, Any] = {
             "version": VERSION,
@@ -165,7 +165,7 @@ class Report:
         return json.dumps(made, indent=1) + "\n"
 
     def junit(self) -> str:
-        """Returns its text as JUnit's XML: what isn't decided, or is empty, is skipped."""
+        """Returns the report as JUnit XML. Undecided and vacuous properties are skipped cases."""
         import xml.etree.ElementTree as xml
 
         suite = xml.Element("testsuite", name=escaped(self.path), time=f"{self.seconds:.3f}",
@@ -185,15 +185,14 @@ class Report:
         return str(xml.tostring(every, "unicode", xml_declaration=False)) + "\n"
 
     def write(self, json_path: str | None, junit_path: str | None) -> None:
-        """Writes its text to these files, if they are wanted."""
+        """Writes the report into the files whose paths aren't None."""
         for path, text in [(json_path, self.json), (junit_path, self.junit)]:
             if path:
                 write(path, [text().encode()])
 
     def put_case(self, suite: xml.Element, answer: PropertyAnswer) -> str | None:
-        """Puts an answer's case into the suite.
-
-        Returns which kind of entry says that it didn't pass, if one does."""
+        """Adds a property's test case to the suite, and returns the name of the element that says
+        why it didn't pass, or None."""
         import xml.etree.ElementTree as xml
 
         name = escaped(" ".join(filter(None, [f"{answer.letter}{answer.number}", answer.name])))

@@ -1,5 +1,4 @@
-"""The table of all properties: what is asked, or gathered, and what is printed and written of
-it."""
+"""Checks every property of a file, or collects earlier answers, and prints and writes the table."""
 import functools
 import os
 import resource
@@ -9,6 +8,7 @@ from collections.abc import Callable, Iterable, Iterator, Sequence
 
 from aigprove.circuits.aiger import Circuit, Fault
 from aigprove.circuits.witness import Witness
+from aigprove.data import message
 from aigprove.designs.front_ends import COVER, LIVE
 from aigprove.engines.job import FAILED, OPEN, SAFE, UNSAFE
 from aigprove.engines.portfolio import TICK
@@ -32,22 +32,22 @@ from aigprove.questions.properties import Properties
 from aigprove.questions.solver import Solver
 from aigprove.questions.target import Target
 
-# What is written of a run of a source, whose circuit a function reads.
+# A function that returns the bytes of a trace's file, given a function that reads the circuit.
 Written = Callable[[Target, Witness, Callable[[], Circuit]], Iterable[bytes]]
-# Seconds that a command of `--tasks` has, if none are given.
+# The time limit in seconds of a command of `--tasks`, unless `--timeout` is given.
 TASK_SECONDS = 60
 STATUS = {"fails": UNSAFE, "holds": SAFE, "undecided": OPEN}
 
 
 class Table:
-    """What a command line asks of each property of a file.
+    """The properties of a file: its bad states, its justice properties, and the covers of a design.
 
-    Those are its bad states, its justice properties, and the covers of a design."""
+    Raises Fault if there are none."""
 
     def __init__(self, options: Options, checker: Checker, above: str) -> None:
         self.options, self.checker, self.above = options, checker, above
         self.begun = time.monotonic()
-        # Each property has files in memory.
+        # Each property has files in memory, each of which needs a descriptor.
         most = resource.getrlimit(resource.RLIMIT_NOFILE)[1]
         resource.setrlimit(resource.RLIMIT_NOFILE, (most, most))
         self.first = BadStates(options, above, checker)
@@ -74,35 +74,35 @@ class Table:
         return fair
 
     def all_sources(self) -> Sequence[Properties]:
-        """Returns what has properties."""
+        """Returns all groups of properties. Raises Fault if there are none."""
         sources: list[Properties] = [self.first.placed("")] if self.first.answers() else []
         if self.first.has_later({COVER}):
             sources.append(Covers(self.options, self.above, self.checker, self.first.given))
         sources += self.fair
         if not sources:
-            raise Fault(f"{self.first.path}: {self.first.empty}")
+            raise Fault.of("of_file", path=self.first.path, why=message(self.first.empty))
         return sources
 
     def heading(self) -> list[str]:
-        """Returns the lines before the table."""
+        """Returns the lines in front of the table."""
         asked: list[Target] = [self.first] if self.first.answers() else []
         asked += [source for source in self.fair if source.given.design]
         warnings = [] if self.fair else list(self.first.warnings())
         return warnings + [line for source in asked or [self.first] for line in source.about()]
 
     def properties(self, source: Properties) -> SeparateProperties:
-        """Returns the properties of a source, which are asked about."""
+        """Returns the properties of a group, with the engines that check them."""
         if isinstance(source, Justice):
             return SeparateProperties(self.options, self.checker, self.above, source, self.folder)
         return SharedProperties(self.options, self.checker, self.above, source, self.folder)
 
     def run(self) -> int:
-        """Does what is asked, and returns the exit status."""
+        """Checks or collects the properties, prints the table, and returns the exit status."""
         if self.options.tasks:
             for line in commands(self.options, self.sources, self.answers):
                 print(line)
             return OPEN
-        # What was answered by the time when something ends that is printed.
+        # If the run is interrupted, the answers so far are printed.
         try:
             self.gather()
             self.ask(self.parts if not self.options.gather else [])
@@ -121,7 +121,7 @@ class Table:
         return STATUS[self.report.status()]
 
     def gather(self) -> None:
-        """Takes what is kept in a folder."""
+        """Collects the answers in the folder of `--gather`, or in an existing one of `--keep`."""
         folder = self.options.gather or (self.options.keep if self.is_there else None)
         if folder:
             gathered = Gathered(folder, self.parts, self.checker)
@@ -130,7 +130,7 @@ class Table:
                 gathered.keep(self.folder)
 
     def ask(self, parts: Sequence[SeparateProperties]) -> None:
-        """Asks about what has no answer yet, and shows how many have, on a terminal."""
+        """Checks the properties that have no answer yet, and shows the progress on a terminal."""
         calls = [BackgroundCall(part.run) for part in parts]
         try:
             while left := [call for call in calls if call.is_alive()]:
@@ -149,9 +149,7 @@ class Table:
             call.result()
 
     def look_at_assumptions(self) -> None:
-        """Looks up to which step the assumptions can be met, if there are some.
-
-        That is done if a property holds."""
+        """Finds out whether the assumptions can be met, if there are some and a property holds."""
         if not self.report.constraints or not any(answer.is_safe for answer in self.answers):
             return
         found = self.assumptions()
@@ -164,25 +162,25 @@ class Table:
         self.report.met, self.report.unmet, self.report.line = found.met, found.unmet, found.line()
 
     def assumptions(self) -> Assumptions:
-        """Returns what is known of the assumptions."""
+        """Returns what is known about the assumptions."""
         solver = self.options.solver
         found = Assumptions(self.sources[0].placed(ABOVE), self.checker)
         try:
             if not solver.words:
-                raise Fault("cadical is not installed")
+                raise Fault.of("no_cadical")
             asked = Solver(solver.words, self.checker, self.above, solver.takes_turns)
             now, least = time.monotonic(), max(answer.steps for answer in self.answers)
-            # Once the time is over that takes a moment more, from the first step on.
+            # If the time is over, this takes a moment more, and begins at the first step.
             with limited(max(self.options.deadline, now + 3 * SECONDS)):
                 found.look(asked, least if now < self.options.deadline else 0, now + SECONDS)
         except Fault as why:
-            say(f"assumptions: {why}")
+            say(message("assumptions", why=why))
         except Stopped:
             self.checker.task.scope.stop()
         return found
 
     def print(self) -> None:
-        """Prints the table, and ends the script of what is kept."""
+        """Prints the table, and completes the evidence folder."""
         self.report.seconds = time.monotonic() - self.begun
         lines = [*self.report.table(), *([self.report.line] if self.report.line else [])]
         if self.folder:
@@ -191,7 +189,7 @@ class Table:
             print(line)
 
     def write(self) -> None:
-        """Writes what is wanted of the table."""
+        """Writes the files that the options ask for."""
         options = self.options
         self.report.write(options.json, options.junit)
         if options.witness:
@@ -200,10 +198,10 @@ class Table:
             self.write_runs(options.vcd, "vcd", dump_of)
 
     def write_runs(self, folder: str, suffix: str, call: Written) -> None:
-        """Writes a file for each run into a folder."""
+        """Writes a file for each trace into a folder."""
         os.makedirs(folder, exist_ok=True)
         for part in self.parts:
-            # It is read once, if it is needed.
+            # The circuit is read at most once.
             circuit = functools.cache(part.source.circuit)
             for answer in part.answers:
                 if answer.trace:
@@ -213,10 +211,10 @@ class Table:
 
 def commands(options: Options, sources: Iterable[Properties],
              answers: Iterable[PropertyAnswer]) -> Iterator[str]:
-    """Yields a line for each property and for engines that go together.
+    """Yields a command for each property and each group of engines.
 
-    Such a command reads the file in the folder of --keep, and keeps what it shows in a new folder
-    in it."""
+    A command reads the file in the folder of `--keep`, and writes its evidence into a new
+    subfolder."""
     folder = options.keep or ""
     numbers = {"bound": options.bound, "limit": options.limit}
     given = [word for name, number in numbers.items() if number is not None
@@ -234,12 +232,12 @@ def commands(options: Options, sources: Iterable[Properties],
 
 
 def witness_of(source: Target, trace: Witness, _: Callable[[], Circuit]) -> Iterable[bytes]:
-    """Returns the text of a run."""
+    """Returns the text of a witness."""
     return [trace.text().encode()]
 
 
 def dump_of(source: Target, trace: Witness, read: Callable[[], Circuit]) -> Iterable[bytes]:
-    """Returns a value change dump, which yosys makes of a design, if it can."""
+    """Returns a value change dump, from yosys's simulation if the file is a design."""
     circuit = read()
     list(source.lines_of_run(Signals(circuit), circuit, trace))
     return (f"{line}\n".encode() for line in source.dump(circuit, trace))

@@ -1,4 +1,4 @@
-"""Runs as value change dumps (VCD, IEEE 1364), which wave viewers such as gtkwave read."""
+"""Traces as value change dumps (VCD, IEEE 1364), which waveform viewers such as gtkwave read."""
 import collections
 import itertools
 import re
@@ -16,8 +16,10 @@ PATH = re.compile(rb"((?:[A-Za-z_][A-Za-z0-9_$]*\.)+)(.+)", re.DOTALL)
 
 
 def words(names: Sequence[bytes]) -> Words:
-    """Returns the places of the bits of each word among names, the lowest bit first: `d[0]`, `d[1]`
-    and so on, at least two, each once, where nothing else is named `d`."""
+    """Returns the positions of the bits of each word among names, lowest bit first.
+
+    A word `d` has at least two bits, `d[0]`, `d[1]` and so on, each once, and nothing else is named
+    `d`."""
     found, times = collections.defaultdict[bytes, dict[int, int]](dict), collections.Counter(names)
     for i, name in enumerate(names):
         bit = BIT.fullmatch(name)
@@ -31,15 +33,17 @@ def words(names: Sequence[bytes]) -> Words:
 
 
 def grouped(count: int, found: Mapping[T, Sequence[int]]) -> list[tuple[T | None, Sequence[int]]]:
-    """Returns the name and the places of each of these words, where its lowest bit is, and no name
-    and the place of what is in none."""
+    """Returns the name and the bits' positions of each word, and None and the position of each
+    other signal, in order of the lowest positions.
+
+    `found` are the words, of `count` signals."""
     starts = {places[0]: (name, places) for name, places in found.items()}
     inner = {i for places in found.values() for i in places[1:]}
     return [starts.get(i, (None, [i])) for i in range(count) if i not in inner]
 
 
 def reference(name: bytes) -> str:
-    """Returns a name as VCD has it: an identifier, or one that is escaped, of printable bytes."""
+    """Returns a name as a VCD identifier, escaped if necessary, in printable ASCII."""
     if SIMPLE_NAME.fullmatch(name):
         return name.decode()
     return "\\" + "".join(chr(byte) if 33 <= byte <= 126 and byte != ord("%") else f"%{byte:02X}"
@@ -47,7 +51,7 @@ def reference(name: bytes) -> str:
 
 
 def code(number: int) -> str:
-    """Returns the identifier code of a signal, of the printable characters from ! on."""
+    """Returns the VCD identifier code of a signal: a number in base 94."""
     digits = chr(33 + number % 94)
     while number >= 94:
         number = number // 94 - 1
@@ -56,7 +60,8 @@ def code(number: int) -> str:
 
 
 class Variable:
-    """A signal or a word: its code, its name, and its literals, the lowest bit first."""
+    """A signal or a word: its identifier code, scopes and name, and its literals, lowest bit
+    first."""
 
     def __init__(self, number: int, name: bytes, literals: Sequence[int]) -> None:
         self.code, self.literals = code(number), literals
@@ -70,14 +75,14 @@ class Variable:
         return f"$var wire {width} {self.code} {reference(self.name)}{bits} $end"
 
     def change(self, values: Values) -> str:
-        """Returns the line that says its value in a step."""
+        """Returns the line with its value."""
         bits = "".join(values[literal] for literal in reversed(self.literals))
         return bits + self.code if len(bits) == 1 else f"b{bits} {self.code}"
 
 
 def variables(circuit: Circuit) -> Iterator[tuple[str, list[Variable]]]:
-    """Yields the variables of each kind: its words, each in the place of its lowest bit, and its
-    other signals."""
+    """Yields the letter of each kind of signals, and its variables. A word is at the position of
+    its lowest bit."""
     numbers = itertools.count()
     for letter, group in itertools.groupby(circuit.signals(), key=lambda signal: signal[0]):
         literals = [literal for _, _, literal in group]
@@ -88,8 +93,8 @@ def variables(circuit: Circuit) -> Iterator[tuple[str, list[Variable]]]:
 
 
 def declarations(made: Iterable[Variable]) -> Iterator[str]:
-    """Yields the declarations of variables that stand in the order of their scopes, which are
-    opened and closed between them."""
+    """Yields the declarations of variables, and of their scopes. The variables have to be sorted by
+    scope."""
     opened: list[str] = []
     for it in made:
         pairs = list(zip(opened, it.scopes))
@@ -103,9 +108,10 @@ def declarations(made: Iterable[Variable]) -> Iterator[str]:
 
 def dump(circuit: Circuit, state: Sequence[str],
          inputs: Sequence[Sequence[str]], loop: int | None = None) -> Iterator[str]:
-    """Yields the lines of the value change dump.
+    """Yields the lines of a value change dump of a trace.
 
-    Of a run that comes again and again from a step on, the signal `loop` is 1 from there on."""
+    `state` has the initial values of latches, and `inputs` those of inputs in each step. If `loop`
+    is the first step of a lasso's loop, a signal `loop` is 1 from there on."""
     made = list(variables(circuit))
     mark = code(sum(len(own) for _, own in made))
     yield "$comment a time unit is a step $end"

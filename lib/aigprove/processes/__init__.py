@@ -1,1 +1,1 @@
-"""The processes that are started: their turns, limits and files."""
+"""Starts programs, and handles their turns, limits and files."""

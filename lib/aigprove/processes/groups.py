@@ -1,5 +1,5 @@
-"""Programs that run, each in a group of processes that is stopped, continued and ended whole; what
-ends them if aigprove is killed; and what they leave behind."""
+"""Runs programs in process groups, which are stopped, continued and killed as a whole, also if
+aigprove itself is killed."""
 from __future__ import annotations
 
 import contextlib
@@ -20,14 +20,14 @@ if TYPE_CHECKING:
 
 T = TypeVar("T")
 SUBREAPER = 36
-# How many seconds a call has to end by itself, whose programs were ended.
+# The seconds that a call has for ending after its programs were killed.
 SOON = 0.2
-# How many bytes a file has whose check is told of while it is read.
+# The size in bytes of a file for which the progress of reading is shown.
 LONG = 1 << 22
 
 
 class BackgroundCall(threading.Thread, Generic[T]):
-    """A call in another thread. (Pools of threads take longer to be imported.)"""
+    """A call in another thread. Unlike a pool of threads, it is imported quickly."""
 
     def __init__(self, call: Callable[..., T], *arguments: object) -> None:
         super().__init__()
@@ -37,42 +37,43 @@ class BackgroundCall(threading.Thread, Generic[T]):
         self.start()
 
     def run(self) -> None:
+        """Runs the call, and records its result or its exception."""
         try:
             self.given.append(self.call(*self.arguments))
         except BaseException as error:
             self.error = error
 
     def result(self) -> T:
-        """Waits for the call's end, and returns what it returns, or raises what it raises."""
+        """Waits for the end of the call, and returns or raises what the call returned or raised."""
         self.join()
         if self.error:
             raise self.error
         return self.given[0]
 
     def give_up(self) -> None:
-        """Waits a little for the call's end, once all that it waits for was ended."""
+        """Waits a little for the end of the call, whose programs were killed."""
         self.join(SOON)
 
 
 def adopt() -> None:
-    """Makes this process the parent of all that its programs leave behind, so that `bury` finds
-    it."""
-    # Only one process of ours does that.
+    """Makes this process the parent of all processes that its programs leave behind, so that `bury`
+    finds them."""
+    # Only the main process needs this module.
     import ctypes
 
     ctypes.CDLL(None).prctl(SUBREAPER, 1, 0, 0, 0)
 
 
 def children() -> Iterator[int]:
-    """Yields the processes whose parent is this one: each of its threads may have some."""
+    """Yields the child processes of all threads of this process."""
     for task in os.listdir("/proc/self/task"):
         with contextlib.suppress(OSError), open(f"/proc/self/task/{task}/children") as file:
             yield from map(int, file.read().split())
 
 
 def end(process: int) -> None:
-    """Ends a process, if this one is its parent."""
-    # A thread that waits for it may see its end first.
+    """Kills a child process."""
+    # Another thread may have waited for it.
     with contextlib.suppress(ProcessLookupError, ChildProcessError):
         if os.waitpid(process, os.WNOHANG)[0] == 0:
             os.kill(process, signal.SIGKILL)
@@ -80,15 +81,15 @@ def end(process: int) -> None:
 
 
 def bury(kept: Collection[int] = ()) -> None:
-    """Ends all processes whose parent is this one, except some, and then what these left."""
+    """Kills all child processes except those in `kept`, and then what these leave behind."""
     while left := [process for process in children() if process not in kept]:
         for process in left:
             end(process)
 
 
 def remove(path: str) -> None:
-    """Removes a folder, however deep it is and whatever its rights."""
-    # It gives up if a folder is too deep, and passes over one without rights.
+    """Removes a folder, whatever its depth and access rights are."""
+    # `os.walk` fails if a folder is too deep, and skips folders that it may not read.
     with contextlib.suppress(RecursionError):
         for folder, folders, files in os.walk(path, topdown=False):
             for name in folders + files:
@@ -106,17 +107,17 @@ Words = Sequence[Word]
 
 
 def signal_group(group: int, number: int) -> None:
-    """Sends a signal to a group of processes, if there is one."""
+    """Sends a signal to a process group, if there is one."""
     with contextlib.suppress(ProcessLookupError):
         os.killpg(group, number)
 
 
 def read_of(process: int, file: Sealed) -> int:
-    """Returns how many bytes of a sealed file a process has read, as far as that can be seen."""
+    """Returns how many bytes of a file a process has read, as far as that can be found out."""
     places, descriptor = [0], file.fileno()
     own = os.fstat(descriptor)
     with contextlib.suppress(OSError):
-        # The descriptor by which it got the file stands at its end.
+        # The offset of the inherited descriptor is at the end of the file.
         for name in set(os.listdir(f"/proc/{process}/fd")) - {str(descriptor)}:
             if os.path.samestat(os.stat(f"/proc/{process}/fd/{name}"), own):
                 with open(f"/proc/{process}/fdinfo/{name}", encoding="ascii") as lines:
@@ -125,12 +126,13 @@ def read_of(process: int, file: Sealed) -> int:
 
 
 class Group:
-    """A program that was started in a session of its own, for a task."""
+    """A program that was started in a session of its own, for a task. `folder` is the one whose
+    limits it has."""
 
     def __init__(self, task: Task, words: Words, folder: Folder | None, **streams: Any) -> None:
-        # The folder whose limit it keeps, and up to when its time was counted.
+        # The folder whose limit it has, and until when its running time is counted.
         self.task, self.folder, self.counted = task, folder, time.monotonic()
-        # The long files among its words.
+        # The long files among its arguments.
         sealed = [word for word in words if isinstance(word, Sealed)]
         self.reads = [file for file in sealed if file.size() >= LONG]
         path = folder.path if folder else None
@@ -142,7 +144,7 @@ class Group:
             folder.limit_process(self.process.pid)
 
     def reading(self) -> list[str]:
-        """Says how far it has read each long file."""
+        """Returns how far it has read each long file, as text."""
         pid = self.process.pid
         return [f"{100 * read_of(pid, file) // file.size()} % of {file.size() >> 20} MiB read"
                 for file in self.reads]
@@ -156,7 +158,7 @@ class Group:
         self.signal(signal.SIGKILL)
 
     def wait(self) -> None:
-        """Waits until the program has ended, whoever takes its status."""
+        """Waits until the program has ended, without reaping it."""
         with contextlib.suppress(ChildProcessError):
             os.waitid(os.P_PID, self.process.pid, os.WEXITED | os.WNOWAIT)
 
@@ -167,7 +169,7 @@ class Group:
 
 
 class Keeper:
-    """A process that ends the groups that run if this process is killed and can't do that itself.
+    """A process that kills the running groups if this process is killed.
 
     It is forked before there are threads."""
 
@@ -175,7 +177,7 @@ class Keeper:
         listening, self.telling = os.pipe()
         self.process = os.fork()
         if self.process == 0:
-            # Whatever fails here, the other process goes on alone.
+            # Whatever fails here, the parent process goes on.
             try:
                 os.close(self.telling)
                 os.setsid()
@@ -187,13 +189,13 @@ class Keeper:
         os.close(listening)
 
     def tell(self, number: int) -> None:
-        """Records that a group began, by its number, or that it ended, by the negative number."""
+        """Reports that a group has started, by its number, or has ended, by the negative number."""
         with contextlib.suppress(BrokenPipeError):
             os.write(self.telling, b"%d\n" % number)
 
 
 def end_left(listening: int) -> None:
-    """Ends the groups that began and didn't end, once nobody can report further ones."""
+    """Kills the groups that have started and not ended, once the pipe is closed."""
     groups: set[int] = set()
     with open(listening, "rb") as lines:
         for number in map(int, lines):

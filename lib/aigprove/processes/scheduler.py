@@ -1,4 +1,4 @@
-"""The scheduler: as many programs run at once as there are jobs, and the others wait their turn."""
+"""The scheduler: a limited number of programs run at once, and the others wait for their turn."""
 from __future__ import annotations
 
 import contextlib
@@ -18,38 +18,38 @@ from aigprove.processes.groups import Group, Keeper, Words, bury
 
 S = TypeVar("S")
 T = TypeVar("T")
-# Seconds that an engine may have run longer than another that waits.
+# The seconds by which an engine may have run longer than another one that waits.
 TURN = 0.25
-# Seconds for which an engine's answer is checked before others go on.
+# The seconds for which other engines wait while an engine's answer is checked.
 ALONE = 1
-# An engine that showed a step may run half as long as others once it showed none for so many
-# seconds of its own.
+# An engine that has checked a step, but no further one for LATELY seconds of its own time, gets a
+# SLOWED part of the time of others.
 LATELY, SLOWED = 2, 2
-# How many seconds the main thread has to end by itself once its time is over, and after how many
-# that is tried again.
+# The seconds that the main thread has after the deadline, and after which it is interrupted again.
 LATE, AGAIN = 0.15, 0.01
 
 
 class Stopped(Exception):
-    """That is because the answer is there, or the time is over."""
+    """The work isn't needed any more: the answer is known, or the time is over."""
 
 
 class Task:
-    """The work of one engine, or of the main thread, on a question: its programs share turns."""
+    """The work of one engine, or of the main thread, on a query. Its programs share turns."""
 
     def __init__(self, scope: Scope, engine: str, share: int) -> None:
         self.scope, self.engine = scope, engine
         self.scheduler: Scheduler = scope.scheduler
         # How many times as long as others it may run.
         self.share = share
-        # For how long its programs ran, and for how long they had when it last got further.
+        # The seconds that its programs have run, and had run when the task last made progress.
         self.used = 0.0
         self.further: float | None = None
-        # Whether it has an answer that is being checked, and until when it waits for another's.
+        # Whether its answer is being checked, and until when it waits for another's.
         self.is_answering, self.rests_until = False, 0.0
 
     def start(self, words: Words, folder: Folder | None = None, **streams: Any) -> Group:
-        """Starts a program, which waits for its turn if there is none free."""
+        """Starts a program, which waits if no turn is free. Raises Stopped if the task isn't needed
+        any more."""
         return self.scheduler.start(self, words, folder, **streams)
 
     def finish(self, group: Group) -> int:
@@ -57,10 +57,10 @@ class Task:
         return self.scheduler.finish(group)
 
     def output(self, words: Words, **streams: Any) -> tuple[int, str, str]:
-        """Runs one of our own programs.
+        """Runs one of aig's own programs.
 
-        Returns its status, what it prints, and what it prints on standard error, without the
-        paths and places of sealed files among its arguments."""
+        Returns its status, its output, and its messages on standard error, without the paths of
+        immutable copies among its arguments, and the lines in them."""
         sealed = [word for word in words if isinstance(word, Sealed)]
         with in_memory() as out, in_memory() as said:
             options: dict[str, Any] = {"stdout": out, "stderr": said, **streams}
@@ -72,12 +72,12 @@ class Task:
             return status, printed, unnamed(plain(said.read()).strip(), sealed)
 
     def got_further(self) -> None:
-        """Notes that the engine showed something."""
+        """Records that the engine has made progress."""
         with self.scheduler.lock:
             self.further = self.used
 
     def weight(self) -> float:
-        """Returns how long its programs ran, as it counts when turns are given."""
+        """Returns for how long its programs have run, as it counts for turns."""
         if self.is_answering:
             return 0
         is_behind = self.further is not None and self.used - self.further > LATELY
@@ -88,14 +88,14 @@ class Task:
         return self.rests_until > time.monotonic()
 
     def is_stopped(self) -> bool:
-        """Returns whether it starts nothing any more."""
+        """Returns whether it may not start programs any more."""
         return self.scope.is_stopped() or self.scope.only not in (None, self)
 
     @contextlib.contextmanager
     def answering(self, others: Collection[Task]) -> Iterator[None]:
-        """Lets others that look for the same answer wait a while, because its answer is checked.
+        """Lets other tasks wait a while, because this task's answer is being checked.
 
-        If the answer is wrong, the others go on."""
+        If the answer is wrong, they continue."""
         self.scheduler.prefer(self, others)
         try:
             yield
@@ -105,10 +105,10 @@ class Task:
 
 
 class Scope:
-    """The programs of one question, which can be ended without those of others."""
+    """The programs of one query, which can be ended without those of others."""
 
     def __init__(self, scheduler: Scheduler) -> None:
-        # The task that alone starts programs, once there is an answer.
+        # `only` is the only task that may start programs, once there is an answer.
         self.scheduler, self.is_over = scheduler, False
         self.only: Task | None = None
 
@@ -117,30 +117,29 @@ class Scope:
         return Task(self, engine, share)
 
     def is_stopped(self) -> bool:
-        """Returns whether none of its tasks starts anything any more."""
+        """Returns whether none of its tasks may start programs any more."""
         return self.is_over or self.scheduler.is_stopped
 
     def end_others(self, task: Task) -> None:
-        """Ends the programs of all tasks but this one, which start nothing any more.
-
-        They are gone then, and what they left running is, too."""
+        """Kills the programs of all other tasks, which start none any more, and the processes that
+        these left."""
         with self.scheduler.lock:
             self.only = task
         self.scheduler.end(lambda group: group.task.scope is self and group.task is not task)
         self.scheduler.bury()
 
     def stop(self) -> None:
-        """Ends its programs, which are gone then; none is started from now on."""
+        """Kills its programs, and starts none any more."""
         with self.scheduler.lock:
             self.is_over = True
         self.scheduler.end(lambda group: group.task.scope is self)
 
 
 class Scheduler:
-    """All programs that run now. If a number is given, each has at most that number of bytes of
-    memory.
+    """The running programs, of which `jobs` run at a time. `memory` is the limit of each in bytes,
+    if there is one.
 
-    It forks the process that ends them if this one is killed, so there may be no threads yet."""
+    It forks a process that kills them if this one is killed, so there may be no threads yet."""
 
     def __init__(self, jobs: int, memory: int | None = None) -> None:
         self.jobs, self.memory = jobs, memory
@@ -150,7 +149,8 @@ class Scheduler:
         self.looked = time.monotonic()
 
     def start(self, task: Task, words: Words, folder: Folder | None, **streams: Any) -> Group:
-        """Starts a program of a task, which waits for its turn if there is none free."""
+        """Starts a program of a task, which waits if no turn is free. Raises Stopped if the task
+        isn't needed any more."""
         with self.lock:
             self.check_stopped(task)
             group = Group(task, words, folder, **streams)
@@ -167,7 +167,8 @@ class Scheduler:
 
     def finish(self, group: Group) -> int:
         """Waits for the end of a program, ends what it left running, and returns its status."""
-        # What it left running is ended while its number can't be another's.
+        # The group is killed before its leader is reaped, because the group's number may be reused
+        # after that.
         os.waitid(os.P_PID, group.process.pid, os.WEXITED | os.WNOWAIT)
         group.kill()
         self.keeper.tell(-group.process.pid)
@@ -182,20 +183,20 @@ class Scheduler:
         return status
 
     def check_stopped(self, task: Task) -> None:
-        """Ends the work of a thread that isn't wanted any more."""
+        """Raises Stopped if the task isn't needed any more."""
         if task.is_stopped():
             raise Stopped
 
     def reading(self) -> list[str]:
-        """Says how far long files have been read by our programs."""
+        """Returns how far programs have read long files, as texts."""
         with self.lock:
             return [text for group in self.running for text in group.reading()]
 
     def prefer(self, task: Task, others: Collection[Task]) -> None:
-        """Gives turns to a task that has an answer before others, which wait a while."""
+        """Gives turns to a task whose answer is being checked. The others wait a while."""
         with self.lock:
             self.count()
-            # It may wait for another's.
+            # It may itself be waiting for another task.
             task.is_answering, task.rests_until = True, 0.0
             for other in others:
                 if not other.is_answering:
@@ -205,7 +206,7 @@ class Scheduler:
             self.fill()
 
     def treat_alike(self, task: Task, others: Collection[Task]) -> None:
-        """Ends the preference for a task whose answer was wrong."""
+        """Ends the preference of a task whose answer was wrong."""
         with self.lock:
             task.is_answering = False
             for other in others:
@@ -213,14 +214,14 @@ class Scheduler:
             self.fill()
 
     def count(self) -> None:
-        """Counts how long programs ran since this was done last."""
+        """Adds the time since the last call to the times of running programs."""
         now = time.monotonic()
         for group in self.running:
             group.task.used += now - group.counted
             group.counted = now
 
     def fill(self) -> None:
-        """Continues programs that wait, while there is a turn free."""
+        """Continues waiting programs while there are free turns."""
         while len(self.running) < self.jobs and (ready := self.ready()):
             group = min(ready, key=weight)
             self.waiting.remove(group)
@@ -229,7 +230,7 @@ class Scheduler:
             group.signal(signal.SIGCONT)
 
     def look(self, tick: float) -> None:
-        """Enforces turns and limits, unless that was done less than a number of seconds ago."""
+        """Updates turns and checks limits, unless that was done less than `tick` seconds ago."""
         if time.monotonic() - self.looked > tick:
             self.looked = time.monotonic()
             with self.lock:
@@ -237,9 +238,8 @@ class Scheduler:
             self.check_limits()
 
     def turn(self) -> None:
-        """Gives the turn of the program whose task ran longest to the one whose task ran least.
-
-        It does so if the difference is at least one turn."""
+        """Takes the turn from the task that has run longest, and gives it to the one that has run
+        least, if the difference is large enough."""
         self.count()
         self.fill()
         longest = max(self.running, key=weight, default=None)
@@ -252,7 +252,7 @@ class Scheduler:
         return [group for group in self.waiting if not group.task.rests()]
 
     def suspend(self, group: Group, fill: bool = False) -> None:
-        """Stops a program that runs and has to wait, behind the one that gets its turn."""
+        """Suspends a running program. If `fill`, another one gets its turn first."""
         self.running.remove(group)
         group.signal(signal.SIGSTOP)
         if fill:
@@ -260,7 +260,7 @@ class Scheduler:
         self.waiting.append(group)
 
     def check_limits(self) -> None:
-        """Ends programs that wrote more than they may."""
+        """Kills programs that have written too much."""
         with self.lock:
             groups = list(self.running)
         for group in groups:
@@ -268,7 +268,7 @@ class Scheduler:
                 group.kill()
 
     def end(self, is_wanted: Callable[[Group], bool]) -> None:
-        """Ends the programs for which the function `is_wanted` returns true, and waits for that."""
+        """Kills the programs for which `is_wanted` returns true, and waits for their end."""
         with self.lock:
             groups = list(filter(is_wanted, self.running + self.waiting))
             for group in groups:
@@ -277,22 +277,22 @@ class Scheduler:
             group.wait()
 
     def bury(self) -> None:
-        """Ends the processes that programs left running."""
+        """Kills the processes that programs have left running."""
         with self.lock:
             own = [group.process.pid for group in self.running + self.waiting]
             bury([self.keeper.process, *own])
 
     def stop(self) -> None:
-        """Ends all programs; none is started from now on."""
+        """Kills all programs, and starts none any more."""
         with self.lock:
             self.is_stopped = True
         self.end(lambda _: True)
 
 
 def end_late(_: int, frame: FrameType | None) -> None:
-    """Has the main thread give up what it does.
+    """Handles SIGALRM: interrupts the main thread by raising Stopped.
 
-    Python ignores what is raised while an object is dropped. In this case it is raised later."""
+    Python ignores exceptions in `__del__`, so that it is raised later in this case."""
     while frame:
         if frame.f_code.co_name == "__del__":
             signal.setitimer(signal.ITIMER_REAL, AGAIN)
@@ -303,7 +303,7 @@ def end_late(_: int, frame: FrameType | None) -> None:
 
 @contextlib.contextmanager
 def limited(deadline: float) -> Iterator[None]:
-    """Gives up what the main thread does soon after a deadline, whatever that is."""
+    """Interrupts the main thread soon after a deadline, by raising Stopped."""
     signal.signal(signal.SIGALRM, end_late)
     if deadline < math.inf:
         signal.setitimer(signal.ITIMER_REAL, max(deadline - time.monotonic(), 0) + LATE)
@@ -315,7 +315,7 @@ def limited(deadline: float) -> Iterator[None]:
 
 @contextlib.contextmanager
 def unlimited() -> Iterator[None]:
-    """Lets the main thread finish something short, although its time may be over by then."""
+    """Lets the main thread finish something short, although its deadline may pass meanwhile."""
     left, _ = signal.setitimer(signal.ITIMER_REAL, 0)
     try:
         yield
@@ -324,10 +324,10 @@ def unlimited() -> Iterator[None]:
 
 
 def for_each(items: Iterable[S], jobs: int, call: Callable[[S], T]) -> list[T]:
-    """Returns what a call returns for each of some items, of which a number run at once.
+    """Returns what `call` returns for each item. `jobs` calls run at a time.
 
-    Calls whose work the main thread gave up aren't waited for."""
-    # It takes a while to be imported.
+    If the main thread is interrupted, the calls aren't awaited."""
+    # Importing this module takes a while.
     from concurrent.futures import ThreadPoolExecutor
 
     pool, is_awaited = ThreadPoolExecutor(jobs), True
@@ -341,5 +341,5 @@ def for_each(items: Iterable[S], jobs: int, call: Callable[[S], T]) -> list[T]:
 
 
 def weight(group: Group) -> float:
-    """Returns how long the task of a program ran, as it counts when turns are given."""
+    """Returns for how long the task of a program has run, as it counts for turns."""
     return group.task.weight()

@@ -1,2 +1,1 @@
-"""What is asked about, and who answers: files and their properties, solvers, and aigcheck, which
-checks each answer."""
+"""The queries: files and their properties, SAT solvers, and aigcheck, which checks each answer."""

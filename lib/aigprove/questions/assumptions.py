@@ -1,5 +1,5 @@
-"""Whether the constraints of a file can be met at all, by a run up to some step or by none from a
-step on; and with the fairness of a file, by a run without end."""
+"""Finds out whether the constraints of a file can be met: up to which step, from which step on they
+can't, and, together with fairness, on an infinite path."""
 from __future__ import annotations
 
 import os
@@ -14,19 +14,21 @@ from aigprove.questions.justice import span
 from aigprove.questions.solver import Solver
 from aigprove.questions.target import Target
 
-# For how many seconds of processors further steps are looked at, so that the answer is the same
-# beside other work, and up to which at most, if no line is about later ones.
+# SECONDS is the processor time for looking at further steps; elapsed time would make the answer
+# depend on other work. MOST is the last step that is looked at, unless the answer is about later
+# ones.
 SECONDS, MOST = 0.25, 1 << 12
 MET, LOOPING = "possible.aag", "endless.aag"
 
 
 def used() -> float:
-    """Returns the seconds of processors that this process used, and those that it ran."""
+    """Returns the processor time in seconds that this process and its children have used."""
     return sum(os.times()[:4])
 
 
 class Runs:
-    """Runs of a file that meet what is assumed, by the word that asks aigcheck about these."""
+    """Paths of a file that meet its assumptions. `word` is the option of aigcheck that selects the
+    query about them."""
 
     word: str
 
@@ -34,18 +36,18 @@ class Runs:
         self.assuming, self.checker = source.assuming(), checker
         self.is_made = self.assuming is not source
         self.subject = Subject(self.assuming.subject.file, [self.word])
-        # What aigcheck printed, and a file that was made for that.
+        # The claims that aigcheck has checked, and the transformed file that one of them needs.
         self.claims: dict[str, Claim] = {}
         self.makes: tuple[str, Sealed] | None = None
 
     def claim(self, line: str, command: str, words: Sequence[str],
               files: Mapping[str, Sealed]) -> Claim:
-        """Returns what aigcheck says of them."""
+        """Returns the claim that a command of aigcheck checks about the assumptions."""
         name = self.assuming.name
         return Claim(line, [self.word, command, name, *words], {name: self.subject.file, **files})
 
     def keep(self, evidence: Evidence) -> None:
-        """Keeps what shows it."""
+        """Writes the claims, and what they need, into an evidence folder."""
         if self.claims and self.is_made:
             self.assuming.keep(evidence)
         if self.makes:
@@ -55,18 +57,18 @@ class Runs:
 
 
 class Assumptions(Runs):
-    """Up to which step the constraints of a file were seen to be met, and from which they can't.
-
-    Either may be unknown."""
+    """The last step up to which the constraints are known to be met, and the first step from which
+    they can't be met. Either may be None."""
 
     word = "--possible"
     met: int | None = None
     unmet: int | None = None
 
     def look(self, solver: Solver, least: int, deadline: float) -> None:
-        """Looks at steps 1, 2, 4 and so on, for some seconds, and at least up to this step.
+        """Checks steps 1, 2, 4 and so on, while there is time, and at least up to step `least`.
 
-        If the constraints can't be met at one, the first such is found by halves."""
+        If the constraints can't be met at one of them, the first such step is found by
+        bisection."""
         until, step = used() + SECONDS, max(min(least, MOST), 1)
         while self.unmet is None and time.monotonic() < deadline:
             self.ask(solver, step)
@@ -77,15 +79,16 @@ class Assumptions(Runs):
             self.ask(solver, (below + self.unmet) // 2)
 
     def last_met(self) -> int:
-        """Returns the last step up to which they were seen to be met, or -1."""
+        """Returns the last step up to which the constraints are known to be met, or -1."""
         return -1 if self.met is None else self.met
 
     def ask(self, solver: Solver, step: int) -> None:
-        """Asks whether a run meets the constraints up to a step, and has that checked."""
+        """Decides by a solver whether the constraints can be met up to a step, and has aigcheck
+        check the result."""
         question = Question("query", step)
         can_be_met, given = solver.ask(question, self.subject)
         if can_be_met:
-            made = Subject(self.checker.made("possible", self.subject.file))
+            made = Subject(self.checker.transformed("possible", self.subject.file))
             run = Sealed(self.checker.witness(made, question, given))
             self.makes = (MET, made.file)
             claim = Claim(f"b0 at step {step}", ["run", MET, "met"], {MET: made.file, "met": run})
@@ -97,11 +100,12 @@ class Assumptions(Runs):
         self.met, self.unmet = (step, self.unmet) if can_be_met else (self.met, step)
 
     def is_empty(self) -> bool:
-        """Returns whether no run meets the constraints from a step on."""
+        """Returns whether the constraints can't be met from some step on, so that a proof is
+        vacuous."""
         return self.unmet is not None
 
     def line(self) -> str:
-        """Returns the line that says so."""
+        """Returns the printed line about the constraints."""
         if self.unmet is not None:
             return f"the assumptions can't be met from step {self.unmet} on: the answer is empty"
         if self.met is None:
@@ -110,13 +114,14 @@ class Assumptions(Runs):
 
 
 class Endless(Runs):
-    """The steps of a loop that meets the fairness of a file, or that there is none."""
+    """A loop that meets the constraints and the fairness of a file, or a proof that there is
+    none."""
 
     word = "--endless"
     loop: tuple[int, int] | None = None
 
     def look(self, solver: Solver, _: int, deadline: float) -> None:
-        """Looks at lassos of at most 2, 3, 5 steps and so on, for some seconds."""
+        """Looks for lassos of at most 2, 3, 5 steps and so on, while there is time."""
         until, k = used() + SECONDS, 1
         while not self.claims and k <= MOST and (
                 k == 1 or used() < until and time.monotonic() < deadline):
@@ -124,15 +129,15 @@ class Endless(Runs):
             k *= 2
 
     def ask(self, solver: Solver, question: Question) -> None:
-        """Asks for a lasso of so many steps, or for a proof that there is none of more.
-
-        What is found is checked."""
+        """Looks for a lasso of at most K + 1 steps, or for a proof that there is none at all, and
+        has aigcheck check what is found."""
         has_lasso, given = solver.ask(question, self.subject)
         header = header_of(self.subject.file)
         if has_lasso:
             self.take_lasso(question, given)
             return
-        # Each latch is saved, and each literal of fairness was seen to be true or wasn't.
+        # The circuit has a second copy of each latch, and a latch for each fairness literal and for
+        # the beginning of the loop.
         latches = 2 * header.latches + header.fairness + 1
         window = Question("window", question.k, ("distinct",))
         if latches * (question.k + 2) ** 2 > PAIRS:
@@ -146,12 +151,13 @@ class Endless(Runs):
             self.claims["unmet"] = claim
 
     def take_lasso(self, question: Question, given: Sealed) -> None:
-        """Takes a solution that is a lasso, of the file with a justice property of no literals."""
+        """Records the lasso that a solution describes, as a witness of FILE with an additional,
+        empty justice property."""
         circuit = self.checker.circuit(self.subject.file, "FILE")
         number, circuit.justice = len(circuit.justice), [*circuit.justice, []]
         circuit.header.count(circuit, circuit.header.counts[0])
         made = Sealed(circuit.text())
-        machine = Subject(self.checker.made("live", made, number))
+        machine = Subject(self.checker.transformed("live", made, number))
         data = self.checker.witness(machine, question, given)
         lasso = lasso_of(data, len(circuit.latches))._replace(bad=number)
         run = Sealed(lasso.text().encode())
@@ -160,11 +166,11 @@ class Endless(Runs):
         self.claims["met"] = Claim(line, ["run", *files], files)
 
     def is_empty(self) -> bool:
-        """Returns whether no run without end meets the constraints and the fairness."""
+        """Returns whether no infinite path meets the constraints and the fairness."""
         return "unmet" in self.claims
 
     def line(self) -> str:
-        """Returns the line that says so."""
+        """Returns the printed line about them."""
         if self.is_empty():
             return "the assumptions can't be met without end: the answer is empty"
         if self.loop is None:

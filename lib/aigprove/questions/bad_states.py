@@ -1,4 +1,4 @@
-"""One file, whose bad states are asked about, and the covers of a design."""
+"""The bad state properties of a file, and the covers of a design."""
 from __future__ import annotations
 
 import re
@@ -21,10 +21,10 @@ if TYPE_CHECKING:
     from aigprove.designs.verilog import Design
     from aigprove.output.evidence import Evidence
 
-# How many registers that are uninitialised are named.
-NAMED_OPEN = 8
-# What aigcheck prints about the outputs of a file of the time before bad states, and the name of
-# the file that aigedit makes of one.
+# The greatest number of uninitialised registers that are named.
+MOST_NAMED = 8
+# The lines of aigcheck about a file from before AIGER 1.9, whose outputs are its bad states, and
+# the name of the transformed file in which they are bad state properties.
 OF_OUTPUTS = Statements("no output is true at step {k}", "no output is true up to step {k}",
                         "no output is true at any step, if none up to step {k}",
                         "no output is true at any step")
@@ -32,11 +32,13 @@ BADS = "bads.aag"
 
 
 class BadStates(Properties):
-    """One file, whose bad states are asked about."""
+    """The bad state properties of one file.
+
+    Raises Fault if a design has no assertion, or the file is refused."""
 
     letter, stems, stem, option = "b", ("properties", "property"), "file", "property"
     command = "property"
-    # Whether outputs are asked about as such, and not in a file in which they are bad states.
+    # Whether the query is about the outputs of the file itself, and not about the transformed file.
     is_by_outputs = False
 
     def __init__(self, options: Options, above: str, checker: Checker,
@@ -44,21 +46,21 @@ class BadStates(Properties):
                  given: Sequence[Sealed] | None = None) -> None:
         design = design or options.design
         super().__init__(InputFile(options.files, design, above, checker, self.stem, given))
-        # The outputs of a design with covers alone are no bad states.
+        # The outputs of a design that only has covers aren't bad states.
         is_blif, own = BLIF in self.given.kinds, self.given.design
         self.is_old = is_old(self.given.line) and (not own or is_blif)
         if own and not is_blif and not (own.assertions or self.has_later(design.later)):
-            raise Fault(f"{self.path}: {own.top} has no assertion")
+            raise Fault.of("no_assertion", path=self.path, top=own.top)
         self.is_by_outputs = self.is_old
         if self.is_old:
             self.subject, self.lines = Subject(self.given.file, ["--outputs"], ["bads"]), OF_OUTPUTS
         self.replay: Replay | None = None
 
     def placed(self, above: str) -> BadStates:
-        """Returns the same of a file that is kept in this folder.
+        """Returns the same properties, with the file in the folder `above`.
 
-        One in which the outputs are bad states is made first: each of them may be asked about by
-        itself."""
+        If its outputs are bad states, this is the transformed file, so that each of them may be
+        checked separately."""
         made = super().placed(above)
         if self.is_old:
             made.is_by_outputs, made.name = False, above + BADS
@@ -66,41 +68,52 @@ class BadStates(Properties):
         return made
 
     def run(self, checker: Checker, trace: Witness) -> Claim:
+        """Returns the claim that a trace reaches a bad state, after aigcheck has checked it. Raises
+        Fault if aigcheck refuses it."""
         own = super().run if not self.is_by_outputs else self.placed("").run
         return own(checker, trace)
 
     def keep_run(self, evidence: Evidence, checker: Checker, trace: Witness) -> None:
+        """Writes a trace into an evidence folder, with the transformed file if the trace is about
+        outputs."""
         if self.is_by_outputs:
             self.keep_bads(evidence)
         super().keep_run(evidence, checker, trace)
 
     def keep_bads(self, evidence: Evidence) -> None:
-        """Keeps the file in which the outputs are bad states, and how it is made."""
+        """Writes the transformed file into an evidence folder, with the command that generates
+        it."""
         evidence.makes(BADS, self.given.bads, "bads", self.given.name)
 
     def of_file(self, trace: Witness) -> Witness:
+        """Returns a witness of the file, given one of the engines' file."""
         return trace.showing(self.number) if self.is_one else trace
 
     def warnings(self) -> Iterator[str]:
+        """Yields warnings about what isn't checked."""
         return self.given.warnings()
 
     def has_later(self, kinds: Iterable[str]) -> bool:
-        """Returns whether its design has something of these kinds, which is asked by itself."""
+        """Returns whether the design has properties of these kinds, which other queries check."""
         design = self.given.design
         return design is not None and (COVER in kinds and design.has_covers
                                        or LIVE in kinds and design.has_lives)
 
     def counted(self) -> tuple[str, int]:
+        """Returns the letter of the properties' names in the file, and their number."""
         header = self.given.header()
         return ("o", header.outputs) if self.is_old else ("b", header.bads)
 
     def about(self) -> Iterator[str]:
+        """Yields lines about what is checked, if that isn't obvious."""
         yield from super().about()
         if self.is_old:
             yield "the outputs are taken for bad state properties: " \
                 "the file is of a time before these"
 
     def lines_of_run(self, signals: Signals, circuit: Circuit, trace: Witness) -> Iterator[str]:
+        """Yields the lines of a trace, with the values in yosys's simulation if the file is a
+        design."""
         design = self.given.design
         if design is None or not design.assertions:
             return super().lines_of_run(signals, circuit, trace)
@@ -108,7 +121,8 @@ class BadStates(Properties):
 
     def lines_of_design(self, design: Design, signals: Signals, circuit: Circuit,
                         trace: Witness) -> Iterator[str]:
-        """Yields lines with the values of what the failing assertion reads, as yosys runs it."""
+        """Yields the lines of a trace with the values that the failing assertion reads in yosys's
+        simulation."""
         from aigprove.designs.replay import Replay
 
         own, text = design.assertion(trace.bad)
@@ -117,12 +131,12 @@ class BadStates(Properties):
             replay = self.replay = Replay(design, circuit, trace)
         except Fault as why:
             yield from super().lines_of_run(signals, circuit, trace)
-            yield from self.open_registers(design, circuit, trace)
+            yield from self.uninitialised_registers(design, circuit, trace)
             yield from [f"{own} fails", f"yosys doesn't run it: {why}"]
         else:
-            latches = replay.latches | self.opened(circuit, trace)
+            latches = replay.latches | self.uninitialised(circuit, trace)
             yield from signals.lines(trace, latches, replay.changes)
-            yield from self.open_registers(design, circuit, trace)
+            yield from self.uninitialised_registers(design, circuit, trace)
             if replay.trouble:
                 yield f"{own} fails by the file, but where yosys runs the design {replay.trouble}"
             else:
@@ -131,32 +145,34 @@ class BadStates(Properties):
         yield from [f"it says: {text}"] * bool(text)
 
     def dump(self, circuit: Circuit, trace: Witness) -> Iterable[str]:
-        """Returns the lines of a dump, which yosys wrote if it ran the design."""
+        """Returns the lines of a value change dump: that of yosys's simulation, if there is one."""
         return self.replay.dump.splitlines() if self.replay else super().dump(circuit, trace)
 
-    def open_registers(self, design: Design, circuit: Circuit, trace: Witness) -> Iterator[str]:
-        """Yields the line of the registers of a design that are uninitialised, and matter."""
+    def uninitialised_registers(self, design: Design, circuit: Circuit,
+                                trace: Witness) -> Iterator[str]:
+        """Yields the line that names the uninitialised registers whose values matter."""
         bits = [decoded(circuit.names.get(("l", i), b""))
-                for i in sorted(self.opened(circuit, trace))]
+                for i in sorted(self.uninitialised(circuit, trace))]
         registers = dict.fromkeys(re.sub(r"\[[0-9]+\]$", "", bit) for bit in bits)
         names = [name for name in registers if name and name not in design.constants]
         if names:
-            count = len(names) - NAMED_OPEN
+            count = len(names) - MOST_NAMED
             others = f" and {count} others" if count > 0 else ""
             hint = "" if design.reset else " (--reset SIGNAL begins with a reset)"
-            listed = " ".join(map(word, names[:NAMED_OPEN]))
+            listed = " ".join(map(word, names[:MOST_NAMED]))
             yield f"open at the start: {listed}{others}{hint}"
 
     def keep(self, evidence: Evidence) -> None:
+        """Writes the file into an evidence folder, and the transformed file if properties are about
+        that."""
         super().keep(evidence)
         if self.is_old and not self.is_by_outputs and not self.above:
             self.keep_bads(evidence)
 
 
 class Covers(BadStates):
-    """The covers of a design, in a file of their own in which they are bad states.
-
-    What was read of the design is given."""
+    """The covers of a design, as bad state properties of a separate file. `first` is the file of
+    the assertions."""
 
     letter, stems, stem = "c", ("covers", "cover"), "covers"
 
@@ -166,17 +182,16 @@ class Covers(BadStates):
 
 
 def of_kind(kind: str, options: DesignOptions, first: InputFile) -> DesignOptions:
-    """Returns the options that ask about what a design has of a kind.
+    """Returns the options for the properties of a kind in a design that has been read as `first`.
 
-    The first question printed what isn't asked about."""
+    Warnings are off, because they were printed then."""
     assert first.design
     return options._replace(is_quiet=True, kind=kind, top=first.design.top)
 
 
 def is_old(line: bytes) -> bool:
-    """Returns whether a file's first line is of the time before bad state properties.
-
-    Such a file has outputs that stand for them."""
+    """Returns whether a header line is from before AIGER 1.9, and has outputs, which are bad states
+    in such a file."""
     try:
         header = Header(Lines(line, "FILE"))
     except Fault:

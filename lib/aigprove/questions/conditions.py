@@ -1,46 +1,51 @@
-"""The conditions by which a witness circuit simulates a file, and has an inductive property that
-implies the file's. Which of its inputs and latches stand for the file's its names say, or else
-their order. What is asked about them is aigcheck's; names are told alone."""
+"""The conditions by which a witness circuit proves a file safe: it simulates the file, and has an
+inductive property that implies the file's.
+
+Names of its inputs and latches, or otherwise their order, say which literals of the file they stand
+for. aigcheck generates the clauses; here names are only printed."""
 import re
 from collections.abc import Iterable
 
-from aigprove.circuits.aiger import Circuit, Gates
+from aigprove.circuits.aiger import Circuit
 from aigprove.circuits.certificates import STANDS
+from aigprove.circuits.gates import Gates
+from aigprove.data import message
 from aigprove.processes.files import Sealed
 from aigprove.questions.checker import Condition, Query, Question
 
 CONDITIONS = ["reset", "transition", "property", "base", "step"]
-# A line of a name that says for which literal of the file a leaf stands, and one that has a number.
+# The line of a name that maps an input or latch to a literal of the file, and such a name.
 LINE, NAME = re.compile(rb"^[il][0-9]+ " + STANDS, re.M), re.compile(STANDS + rb"([0-9]+)")
 
 
 def of_both(witness: Sealed) -> dict[str, Query]:
-    """Returns what is asked of a file and a witness circuit, by the conditions."""
+    """Returns the queries about a file and a witness circuit, by the names of the conditions."""
     return {name: Condition(witness, name) for name in CONDITIONS}
 
 
 def questions(*form: str) -> dict[str, Query]:
-    """Returns what is asked of a machine whose property has to be inductive, by clauses of this
-    form."""
+    """Returns the two queries of an inductive property, with clauses in this form."""
     return {"base": Question("query", 0, form), "step": Question("window", 0, form)}
 
 
 def is_named(witness: Sealed) -> bool:
-    """Returns whether names say which leaves stand for the file's."""
+    """Returns whether names map the witness circuit's inputs and latches to those of the file."""
     return LINE.search(witness.data()) is not None
 
 
 def line_of_unmet(broken: Iterable[str]) -> list[str]:
-    """Returns the line of the conditions that aren't met, if there are such."""
-    return [f"it doesn't meet the conditions: {', '.join(broken)}"] if broken else []
+    """Returns the message about conditions that aren't met, or an empty list if all are met."""
+    return [message("conditions", names=", ".join(broken))] if broken else []
 
 
-def with_open_resets(circuit: Circuit, starts: bool) -> None:
-    """Has latches whose resets are functions start open, and, where it `starts`, by a constraint
-    with the values of these: the same for a question about step 0, and for one about steps from any
-    state without it. Programs that know no such resets take it."""
+def with_free_resets(circuit: Circuit, starts: bool) -> None:
+    """Makes latches uninitialised whose initial values are functions.
+
+    If `starts`, a constraint gives them these initial values: this circuit is for a query about
+    step 0, and the one without it for a query about paths from any state. Programs that don't know
+    such initial values accept both."""
     gates = Gates(2 * (circuit.header.counts[0] + 1))
-    for i in circuit.opened():
+    for i in circuit.uninitialised():
         latch, reset = circuit.latches[i], circuit.resets[i]
         if starts and reset != latch:
             circuit.constraints.append(gates.choice(latch, reset, reset ^ 1))
@@ -50,15 +55,17 @@ def with_open_resets(circuit: Circuit, starts: bool) -> None:
 
 
 def leaves(circuit: Circuit) -> dict[int, tuple[str, int]]:
-    """Returns the places of the inputs and latches, by their literals."""
+    """Returns the letter and position of each input and latch, by its literal."""
     lists = [("i", circuit.inputs), ("l", circuit.latches)]
     return {literal: (letter, i)
             for letter, literals in lists for i, literal in enumerate(literals)}
 
 
 def name_shared(circuit: Circuit, file: Circuit, named: Circuit) -> None:
-    """Gives the leaves of a witness circuit that stand for the file's the names that these have
-    if they are told."""
+    """Gives inputs and latches of a witness circuit the names of those of the file for which they
+    stand.
+
+    `file` has the literals to which names refer, and `named` the printed names."""
     given, found = leaves(file), {place: NAME.fullmatch(name)
                                   for place, name in circuit.names.items()}
     by_name = {place: given.get(int(name[1])) for place, name in found.items() if name}

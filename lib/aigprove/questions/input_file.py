@@ -1,4 +1,4 @@
-"""Files as they were named: their bytes are read once, into memory that nobody can write."""
+"""The files on the command line. Each is read once, into memory that can't be written any more."""
 from __future__ import annotations
 
 import errno
@@ -8,6 +8,7 @@ from collections.abc import Iterator, Sequence
 from typing import TYPE_CHECKING
 
 from aigprove.circuits.aiger import Circuit, Fault, Header, Lines, Symbols, decoded, encoded
+from aigprove.data import message
 from aigprove.designs.front_ends import (
     FRONTS, STANDARD_INPUT, VERILOG, File, kind_of, overdue)
 from aigprove.options.options import DesignOptions
@@ -20,11 +21,12 @@ if TYPE_CHECKING:
     from aigprove.designs.verilog import Design
     from aigprove.output.evidence import Evidence
 
-# How names of files of designs end.
+# The file name extensions of designs.
 ENDS = ", ".join(FRONTS)
-# How Verilog calls the last value of a signal, or one before, and the index of a bit.
+# PAST is Verilog's expression for a signal's value in an earlier step, and INDEX the index of a
+# bit.
 PAST, INDEX = re.compile(rb"\$past\((.*?)(?:,([0-9]+))?\)"), re.compile(rb"(\[[0-9]+\])?\Z")
-# Options that are for designs alone, or for those that certain front ends read.
+# Options for designs, with the front ends that know them; None stands for all.
 OF_DESIGNS: dict[str, list[str] | None] = {
     **dict.fromkeys(["top", "reset", "parameter", "black_box", "multiclock"]),
     **dict.fromkeys(["define", "include", "stops"], [VERILOG]),
@@ -32,14 +34,14 @@ OF_DESIGNS: dict[str, list[str] | None] = {
 
 
 class InputFile:
-    """A file in AIGER form as it was given, and its name among what is kept.
+    """A file on the command line, in AIGER format.
 
-    Of the files of a design one is made first."""
+    A design is translated first. `name` is its name in an evidence folder, without the extension;
+    `given` are the files if they have been read already. Raises Fault if a file is refused."""
 
     def __init__(self, paths: Sequence[str], options: DesignOptions, above: str, checker: Checker,
                  name: str = "file", given: Sequence[Sealed] | None = None) -> None:
         self.path, self.checker, self.stem = paths[0], checker, name
-        # What was read before is given.
         self.given = given or [
             sealed("/dev/stdin" if path == STANDARD_INPUT else path, checker.limit)
             for path in paths]
@@ -47,8 +49,7 @@ class InputFile:
         self.check_kinds(paths, options)
         self.design: Design | None = None
         if not self.kinds[0] and not self.given[0].line().startswith(b"a"):
-            raise Fault(f"{paths[0]} is no file in AIGER form, which begins with aag or aig, nor "
-                        f"one of a design, whose name ends with {ENDS}")
+            raise Fault.of("unknown_kind", path=paths[0], ends=ENDS)
         if self.kinds[0]:
             files = [File(path, file.data()) for path, file in zip(paths, self.given)]
             try:
@@ -56,55 +57,57 @@ class InputFile:
             except Stopped:
                 raise overdue(paths[0]) from None
         self.take(sealed(self.design.file, checker.limit) if self.design else self.given[0])
-        self.say_left_out(options)
+        self.print_warnings(options)
 
-    def say_left_out(self, options: DesignOptions) -> None:
-        """Prints what yosys warns of in a design, and what of it isn't asked about, nor later."""
+    def print_warnings(self, options: DesignOptions) -> None:
+        """Prints yosys's warnings about a design, and the properties that aren't checked now or
+        later."""
         if self.design and not options.is_quiet:
-            left_out = self.design.left_out
-            for line in [*self.design.yosys.warnings, *self.design.noticed,
-                         *(line for kind, line in left_out if kind not in options.later)]:
+            unchecked = self.design.unchecked
+            for line in [*self.design.yosys.warnings, *self.design.notes,
+                         *(line for kind, line in unchecked if kind not in options.later)]:
                 say(line)
 
     def take(self, file: Sealed) -> None:
-        """Takes the file in AIGER form."""
+        """Sets the file in AIGER format."""
         self.file, self.line = file, file.line()
         self.name = f"{self.stem}.{form(self.line)}"
 
     def check_kinds(self, paths: Sequence[str], options: DesignOptions) -> None:
-        """Refuses a file among several that is of no design, and options for designs alone."""
+        """Raises Fault if one of several files isn't part of a design, or if an option is given
+        that the files' kind doesn't have."""
         for path, kind in zip(paths, self.kinds):
             if not kind and len(paths) > 1:
-                raise Fault(f"{path} is no file of a design (those end with {ENDS})")
+                raise Fault.of("not_of_design", path=path, ends=ENDS)
         for option, of in OF_DESIGNS.items():
             given, known = getattr(options, option), of or FRONTS.values()
             if given and not any(kind and FRONTS[kind] in known for kind in self.kinds):
-                what = f"so it has no module {given}" if option == "top" \
-                    else f"and --{option.replace('_', '-')} is for these"
-                raise Fault(f"{self.path} is no design{' in Verilog' if of else ''}, {what}")
+                kind = "not_design_top" if option == "top" else \
+                    "not_verilog" if of else "not_design"
+                raise Fault.of(kind, path=self.path, value=given,
+                               option=option.replace("_", "-"))
 
     def header(self) -> Header:
-        """Returns the header of the file in AIGER form."""
+        """Returns the header of the file in AIGER format."""
         return Header(Lines(self.line, "FILE"))
 
     @functools.cached_property
     def bads(self) -> Sealed:
-        """The file that aigedit makes of one of the time before bad states, which its outputs
-        are."""
-        return self.checker.made("bads", self.file)
+        """The transformed file, in which outputs are bad state properties."""
+        return self.checker.transformed("bads", self.file)
 
     def has_justice(self) -> bool:
-        """Returns whether a file that is no design has a justice property. Of one whose header
-        isn't read that is told by what asks about it."""
+        """Returns whether an AIGER file has a justice property. If its header is malformed, the
+        result is False, and the error is reported later."""
         try:
             return not self.design and self.header().justice > 0
         except Fault:
             return False
 
     def circuit(self) -> Circuit:
-        """Returns the circuit that was given, with all its names.
+        """Returns the circuit with all its names.
 
-        If a design has several names for one signal, it has the outermost."""
+        If a design has several names for a signal, that of the outermost module is used."""
         circuit = self.checker.circuit(self.file, "FILE")
         if self.design:
             circuit.names = {place: outermost(name) for place, name in circuit.names.items()}
@@ -112,21 +115,21 @@ class InputFile:
         return circuit
 
     def symbols(self) -> Circuit | Symbols:
-        """Returns something with the names that the circuit has, in less time if that can be."""
+        """Returns an object with the circuit's header and names, without reading the gates if
+        possible."""
         return self.circuit() if self.design else Symbols(Lines(self.file.data(), "FILE"))
 
     def properties(self, letter: str, count: int) -> list[tuple[str, str]]:
-        """Returns the names and the places of its properties: of the assertions of a design, or of
-        so many signals of a kind."""
+        """Returns the name and the source location of each property: of a design's assertions, or
+        of the `count` signals of a kind."""
         if self.design and self.design.assertions:
             return self.design.named()
         names = self.circuit().names
         return [(decoded(names.get((letter, i), b"")), "") for i in range(count)]
 
     def named(self) -> tuple[Circuit, dict[int, list[str]]]:
-        """Returns the circuit of a design with the names of its assertions.
-
-        All names of its registers are returned with it, by their places."""
+        """Returns the circuit of a design, with the names of its assertions, and all names of each
+        register by its position."""
         from aigprove.designs.netlist import all_names
 
         assert self.design
@@ -142,21 +145,19 @@ class InputFile:
         return circuit, names
 
     def warnings(self) -> Iterator[str]:
-        """Yields a line of what the file has that nothing is asked about."""
+        """Yields a warning if the file has justice or fairness, which isn't checked."""
         header = self.header()
         unseen = [*counted(header.justice, "justice property", "justice properties"),
                   *counted(header.fairness, "fairness constraint")]
-        if unseen:
-            verb = "was" if header.justice + header.fairness == 1 else "were"
-            yield f"{self.path}: {' and '.join(unseen)} {verb} not looked at"
+        yield from skipped(self.path, unseen, header.justice + header.fairness)
 
     def about(self) -> Iterator[str]:
-        """Yields the line of what is asked about a design."""
+        """Yields the line that counts a design's properties."""
         if self.design:
             yield self.design.about()
 
     def keep(self, evidence: Evidence) -> None:
-        """Keeps the file, and what it was made of."""
+        """Writes the file, and those from which it was generated, into an evidence folder."""
         evidence.put(self.name, self.file)
         for i, (kind, file) in enumerate(zip(self.kinds, self.given)):
             if kind:
@@ -166,8 +167,8 @@ class InputFile:
 
 
 def design_of(files: Sequence[File], options: DesignOptions, folder: str, task: Task) -> Design:
-    """Returns the design that yosys reads from files."""
-    # The patterns that this module has take long to compile: it is imported if there is a design.
+    """Returns the design in the given files. Raises Fault if it is refused."""
+    # The patterns of this module take long to compile.
     from aigprove.designs import verilog
     from aigprove.designs.yosys import full
 
@@ -180,18 +181,30 @@ def design_of(files: Sequence[File], options: DesignOptions, folder: str, task: 
 
 
 def counted(number: int, one: str, many: str | None = None) -> list[str]:
-    """Returns how many there are of something, unless there is none."""
+    """Returns a list with the number and the noun, such as "2 bads", or an empty list for 0.
+
+    `many` is the plural, if it isn't formed with s."""
     return [f"{number} {one if number == 1 else many or one + 's'}"] if number else []
 
 
+def skipped(path: str, unseen: Sequence[str], count: int) -> Iterator[str]:
+    """Yields the warning that a file has more than what is checked.
+
+    `unseen` describes what isn't checked, and `count` is how many of it there are."""
+    if unseen:
+        kind = "was_skipped" if count == 1 else "were_skipped"
+        yield message(kind, path=path, what=" and ".join(unseen))
+
+
 def outermost(name: bytes) -> bytes:
-    """Returns the name of fewest modules of a signal with several, and of these the shortest."""
+    """Returns, of the names of a signal, separated by spaces, the one that goes through the fewest
+    modules, and of these the shortest."""
     return min(name.split(b" "), key=lambda it: (it.count(b"."), len(it), it))
 
 
 def name_last_values(circuit: Circuit) -> None:
-    """Names registers without a name, as yosys makes of `$past(a)`, by what they held a step
-    before, if that is a signal with a name."""
+    """Names the registers that yosys creates for `$past(a)`, if the value that they sample has a
+    name."""
     known = {literal: name for letter, i, literal in circuit.signals()
              if letter in "il" and (name := circuit.names.get((letter, i)))}
     left = {i for i, latch in enumerate(circuit.latches) if latch not in known}
@@ -202,11 +215,11 @@ def name_last_values(circuit: Circuit) -> None:
 
 
 def last_value(name: bytes) -> bytes:
-    """Returns how Verilog calls the last value of a signal, or of a bit of one."""
+    """Returns Verilog's expression for the last value of a signal, or of a bit of one."""
     longer = PAST.sub(lambda it: b"$past(%s,%d)" % (it[1], int(it[2] or 1) + 1), name)
     return longer if longer != name else b"$past(" + INDEX.sub(rb")\1", name, count=1)
 
 
 def form(line: bytes) -> str:
-    """Returns how the name of a file with this first line ends."""
+    """Returns the file name extension for a file with this header line."""
     return "aag" if line.startswith(b"aag") else "aig"

@@ -1,4 +1,4 @@
-"""The properties of a file that was given, of which all are asked about, or one by its number."""
+"""The properties of a file, which are checked together or one by one."""
 from __future__ import annotations
 
 import copy
@@ -18,16 +18,16 @@ Own = TypeVar("Own", bound="Properties")
 
 
 class Properties(Target):
-    """The properties of one kind that a file has, or one of them."""
+    """The properties of one kind in a file, or one of them."""
 
-    # The letter of their numbers, what all and one of them are called among what is kept, the
-    # option that asks about one, and the command of aigedit that makes a file of it.
+    # The letter in front of a property's number; the names of all properties and of one in an
+    # evidence folder; the option that selects one; and the command of aigedit that selects one.
     letter: str
     stems: tuple[str, str]
     option: str
     command: str
-    # Whether one is asked about, and which; and in which folder the file is kept, if it isn't kept
-    # with that.
+    # Whether a single property is checked, and its number; and the folder that has the file, if it
+    # isn't the evidence folder itself.
     is_one, number, above = False, 0, ""
 
     def __init__(self, given: InputFile) -> None:
@@ -35,7 +35,7 @@ class Properties(Target):
         self.subject = Subject(given.file)
 
     def one(self: Own, number: int, above: str = "") -> Own:
-        """Returns one of them, of a file that is kept in this folder."""
+        """Returns one of the properties, with the file in the folder `above`."""
         made = self.placed(above)
         made.is_one, made.number, made.stem = True, number, f"{self.stems[1]}-{number}"
         words = [f"--{self.option}", str(number)]
@@ -44,31 +44,35 @@ class Properties(Target):
         return made
 
     def placed(self: Own, above: str) -> Own:
-        """Returns the same of a file that is kept in this folder."""
+        """Returns the same properties, with the file in the folder `above`."""
         made = copy.copy(self)
         made.above, made.name, made.stem = above, above + self.name, self.stems[0]
         return made
 
     def circuit(self) -> Circuit:
+        """Returns the circuit whose names are used for printing traces."""
         return self.given.circuit()
 
     def places(self, header: Header) -> list[str]:
+        """Returns the names of the properties in the AIGER report format."""
         return [f"{self.letter}{self.number}"] if self.is_one else super().places(header)
 
     def about(self) -> Iterator[str]:
+        """Yields lines about what is checked, if that isn't obvious."""
         yield from self.given.about()
 
     def answers(self) -> list[PropertyAnswer]:
-        """Returns its properties, which have no answers yet, with their names and places."""
+        """Returns an entry of the table for each property, without an answer yet."""
         from aigprove.output.report import PropertyAnswer
 
         named = self.given.properties(*self.counted())
         return [PropertyAnswer(self.letter, i, *it) for i, it in enumerate(named)]
 
     def counted(self) -> tuple[str, int]:
-        """Returns the letter of the names of its properties, and how many there are."""
+        """Returns the letter of the properties' names in the file, and their number."""
         return self.letter, self.given.header().justice
 
     def keep(self, evidence: Evidence) -> None:
+        """Writes the file into an evidence folder, unless another folder has it."""
         if not self.above:
             self.given.keep(evidence)

@@ -1,4 +1,4 @@
-"""A SAT solver, whose answers go to aigcheck."""
+"""Calls a SAT solver. aigcheck checks its answers."""
 from __future__ import annotations
 
 import os
@@ -12,42 +12,42 @@ from aigprove.processes.groups import Words
 from aigprove.processes.scheduler import Task
 from aigprove.questions.checker import Checker, Query, Subject
 
-# How clauses end that say last that variable 1 is true, which is false by their first.
+# The last clause of a query that is trivially unsatisfiable: variable 1 is true, and the first
+# clause says that it is false.
 CONFLICT = b"\n1 0\n"
 NUMBER = re.compile("-?[0-9]{1,20}")
-# What cadical is told for a proof about assumptions, which has no hints, and stands where nothing
-# takes a variable away.
+# The option of cadical for a proof under assumptions, which has no hints and keeps all variables.
 ASSUMING = "--plain"
 
 
 class Undecided(Fault):
-    """A solver ended without an answer."""
+    """The solver ended without an answer."""
 
 
 def true_of(solution: Sealed) -> set[int]:
-    """Returns the literals that are true in a solution: the `v` lines that a solver printed."""
+    """Returns the literals that are true in a solution: those in the solver's `v` lines."""
     lines = solution.data().decode("ascii", "replace").splitlines()
     words = (word for line in lines if line.startswith("v ") for word in line.split()[1:])
     return {int(word) for word in words if NUMBER.fullmatch(word)} - {0}
 
 
 def are_in_conflict(path: str) -> bool:
-    """Returns whether clauses say at once that they have no solution.
-
-    The output of a question about the steps up to K is then the constant false."""
+    """Returns whether the clauses in a file are trivially unsatisfiable, because the output of a
+    `bounded` query is the constant false."""
     with open(path, "rb") as clauses:
         clauses.seek(max(0, os.path.getsize(path) - len(CONFLICT)))
         return clauses.read() == CONFLICT
 
 
 def in_turn(clauses: bytes) -> list[bytes | memoryview]:
-    """Returns a file of cadical's that asks about the steps up to K in turn, in pieces.
+    """Returns the pieces of an incremental file for cadical that asks about the steps up to K in
+    turn.
 
-    Behind the clauses of the question stands as an assumption, for one step after the other, that
-    a bad state is reached by then; cadical goes on with what it learned. The clauses come in the
-    order of their gates, of which the last says of all steps that none is bad, by a chain: each
-    gate in it reads the one of the step before. If that isn't found, fewer steps are assumed, and
-    the question is the same."""
+    Behind the clauses of the query there is, for one step after the other, the assumption that a
+    bad state is reached by then, so that cadical reuses what it has learned. The clauses are in the
+    order of their gates. The last gate says that no step up to K is bad, as a chain: each gate in
+    it reads that of the step before. If the clauses have another form, fewer steps are assumed, and
+    the query has the same answer."""
     gate, end = -int(clauses[clauses.rindex(b"\n", 0, -1):].split()[0]), len(clauses)
     chain: list[int] = []
     while gate:
@@ -59,9 +59,9 @@ def in_turn(clauses: bytes) -> list[bytes | memoryview]:
 
 
 def operands(clauses: bytes, gate: int, end: int) -> tuple[int, int]:
-    """Returns the first operand of a gate whose clauses stand before a place, and where they are.
+    """Returns the first operand of a gate, and the offset of its clauses, which stand before `end`.
 
-    The operand is 0 if the gate is no and."""
+    The operand is 0 if the gate isn't an and."""
     place = clauses.rfind(b"\n%d -" % gate, 0, end)
     words = clauses[place + 1:clauses.find(b"\n", place + 1)].split() if place >= 0 else []
     if len(words) != 4:
@@ -72,7 +72,10 @@ def operands(clauses: bytes, gate: int, end: int) -> tuple[int, int]:
 
 
 def ended(task: Task, folder: Folder, words: Words, program: str) -> int:
-    """Runs a solver in a folder, and returns 10 if there is a solution, and 20 if none."""
+    """Runs a solver in a folder, and returns 10 if it is satisfiable, and 20 if it isn't.
+
+    Raises Undecided if the solver gives up, and Fault if it fails. `program` is its name for
+    messages."""
     try:
         status = folder.run(task, words)
     finally:
@@ -84,12 +87,11 @@ def ended(task: Task, folder: Folder, words: Words, program: str) -> int:
 
 
 class Solver:
-    """A SAT solver, which is believed nothing.
+    """A SAT solver. None of its answers is trusted.
 
-    It is given the names of a file in DIMACS form and of a file for its proof, in LRAT, as text,
-    or DRAT. It has to end with status 10 and print lines `s ..` and `v ..`, or with status 20. Both
-    files stand in a new folder. One that takes turns, as cadical does, is asked about one step
-    after the other if a question is about several."""
+    Its last two arguments are a DIMACS file and the file for its proof, as LRAT text or DRAT. It
+    has to end with status 10 and print lines `s ..` and `v ..`, or end with status 20. If it
+    `takes_turns`, as cadical does, a query about several steps becomes an incremental one."""
 
     def __init__(self, words: Sequence[str], checker: Checker, above: str,
                  takes_turns: bool = False) -> None:
@@ -97,15 +99,16 @@ class Solver:
         self.task: Task = checker.task
 
     def within(self, seconds: int) -> Solver:
-        """Returns the same solver, cadical, which ends after so many seconds."""
+        """Returns the same solver, which has to be cadical, with a limit of time."""
         words = [*self.words, "-t", str(seconds)]
         return Solver(words, self.checker, self.above, self.takes_turns)
 
     def ask(self, question: Query, subject: Subject) -> tuple[bool, Sealed]:
-        """Returns whether a question has a solution, as the solver says, and its evidence.
+        """Returns whether a query has a solution according to the solver, and the solution or the
+        proof, unchecked.
 
-        That is the solution or the proof, which nobody has looked at. A question about the steps
-        up to K whose clauses are in conflict at once isn't asked, and needs no proof."""
+        A query that is trivially unsatisfiable is decided without the solver, and gets an empty
+        proof. Raises Undecided or Fault if the solver has no answer."""
         with Folder(self.above) as folder:
             with folder.make("clauses.cnf") as out:
                 self.checker.print_question(question, subject, out)
@@ -118,11 +121,12 @@ class Solver:
                                               else ("proof", "proof"))
 
     def ended(self, folder: Folder, words: Words) -> int:
-        """Runs these words in a folder, and returns 10 if there is a solution, and 20 if none."""
+        """Runs a command in a folder, and returns 10 if the query is satisfiable, and 20 if it
+        isn't."""
         return ended(self.task, folder, words, self.words[0])
 
     def called(self, question: Query, folder: Folder) -> list[str]:
-        """Returns the words that ask a question whose clauses are in a folder."""
+        """Returns the command for a query whose clauses are in a folder."""
         if not self.takes_turns or question.command != "bounded":
             return [*self.words, folder.place("clauses.cnf")]
         with open(folder.place("clauses.cnf"), "rb") as clauses:
