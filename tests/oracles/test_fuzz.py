@@ -13,8 +13,8 @@ import resource
 import harness
 import pytest
 from damaged import made_file
-from hypothesis import given, note
-from strategies import cases, choices
+from hypothesis import given
+from strategies import cases, choices, note
 
 SECTIONS = ["inputs", "latches", "outputs", "bads", "constraints", "justice", "fairness", "gates"]
 TEXTS = {
