@@ -28,10 +28,8 @@ import pytest
 
 PACKAGE = harness.TOP / "lib" / "aigprove"
 LISTED = harness.TESTS / "mutants.tsv"
-# By the module: its unit tests, as functions of test modules.
-PARTS = [("test_netlist_units", "test_texts"), ("test_netlist_units", "test_hierarchy"), *(
-    ("test_netlist_units", f"test_{name}") for name in ["netlists", "names", "stored"])]
-TEXTS = [("test_netlist_units", "test_verilog"), ("test_netlist_units", "test_texts")]
+# By the module: its unit tests, as functions of test modules, or as all tests of one.
+NETLISTS = [("test_netlist_units", "")]
 REWRITING = [("test_rewriting_units", "test_texts")]
 NAMES = [("test_design_units", f"test_{name}") for name in [
     "trees", "shapes", "module_units", "hierarchies", "declared", "unknown", "checked"]]
@@ -55,18 +53,18 @@ UNITS = {
         ("test_rtlil", "test_signals"),
         ("test_rtlil", "test_refused"),
         ("test_rtlil", "test_process"),
-        PARTS[0],
+        *NETLISTS,
     ],
-    "designs/modules.py": [*PARTS, ("test_rewriting_units", "test_generated")],
-    "designs/netlist.py": PARTS,
-    "designs/registers.py": PARTS[:1],
-    "designs/ordering.py": [("test_netlist_units", "test_orders")],
+    "designs/modules.py": [*NETLISTS, ("test_rewriting_units", "test_generated")],
+    "designs/netlist.py": NETLISTS,
+    "designs/registers.py": NETLISTS,
+    "designs/ordering.py": NETLISTS,
     "designs/statements.py": [("test_rewriting_units", "test_statements"), *REWRITING],
     "designs/properties.py": [("test_rewriting_units", "test_written_properties"), *REWRITING],
     "designs/rewriting.py": REWRITING,
     "designs/sensitivity.py": [("test_rewriting_units", "test_lists")],
     "designs/labels.py": [("test_rewriting_units", "test_generated")],
-    "designs/texts.py": [*TEXTS, *REWRITING],
+    "designs/texts.py": [*NETLISTS, *REWRITING],
     "designs/names.py": NAMES,
     "designs/yosys.py": YOSYS,
     "designs/reading.py": READING,
@@ -180,7 +178,10 @@ class Finder(importlib.abc.MetaPathFinder, importlib.abc.Loader):
 
 def run_units(units):
     """Whether all unit tests pass, which pytest runs in this process."""
-    paths = [f"{harness.TESTS}/unit/{module}.py::{function}" for module, function in units]
+    paths = [
+        f"{harness.TESTS}/unit/{module}.py" + (f"::{function}" if function else "")
+        for module, function in units
+    ]
     return pytest.main(["-q", "-x", "-p", "no:cacheprovider", "-p", "no:xdist", *paths]) == 0
 
 
@@ -206,7 +207,10 @@ def judge(module, share, shares):
     """The mutants of a module that stay, of every so many one, and how many there are."""
     path, found, count = PACKAGE / module, [], 0
     name = "aigprove." + module[:-3].replace("/", ".")
-    for i, (line, what, made) in enumerate(mutants(path.read_text(encoding="utf-8"))):
+    text = path.read_text(encoding="utf-8")
+    if not stays(name, ast.parse(text), UNITS[module]):
+        raise AssertionError(f"the unit tests of {module} fail without a change")
+    for i, (line, what, made) in enumerate(mutants(text)):
         if i % shares == share:
             count += 1
             if stays(name, made, UNITS[module]):

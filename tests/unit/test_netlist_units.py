@@ -917,112 +917,122 @@ def test_internal(checks: Checks) -> None:
         checks.wants(said, wanted, without_internal(said))
 
 
-def test_netlists(checks: Checks) -> None:
-    """Netlists in JSON."""
-    nets = {
-        "a": net(2),
-        "b": net(3),
-        "y": net(4),
-        "clk": net(5),
-        "q": net(6),
-        PLACED: net(7, hidden=1),
-        "$procmux$1_Y": net(8, hidden=1),
-    }
-    read = cell("$assert", A=[4])
-    drivers = [
-        ([cell("$not", A=[2], Y=[4]), read], None),
-        (
-            [cell("$not", A=[2], Y=[4]), cell("$not", A=[3], Y=[4]), read],
-            "top: y has several drivers",
-        ),
-        ([cell("$not", A=[2], Y=["0"])], "top: a constant has several drivers"),
-        ([cell("$not", A=["z"], Y=[4])], "top: y is z at times, and tristate is not taken"),
-        ([cell("$not", A=[3], Y=[2]), cell("$not", A=[2], Y=[4])], "top: a has several drivers"),
-    ]
-    drivers += [
-        ([cell("$eqx", A=["z"], B=[3], Y=[4]), read], None),
-        ([cell("$nex", A=["z"], B=[3], Y=[4]), read], None),
-        (
-            [
-                cell("$eqx", A=[2], Y=[4]),
-                cell("$eqx", A=[3], Y=[4]),
-                cell("$nex", A=[3], Y=[4]),
-                read,
-            ],
-            None,
-        ),
-        (
-            [{**cell("$assert", A=["z"]), "port_directions": {"A": "input"}}],
-            "top: a constant is z at times, and tristate is not taken",
-        ),
-        # Names that yosys made: one with a place, one on which y depends, and one on which nothing
-        # does that the design names.
-        (
-            [cell("$not", A=[2], Y=[7]), cell("$not", A=[3], Y=[7]), cell("$assert", A=[7])],
-            f"top: {PLACED} has several drivers",
-        ),
-        (
-            [
-                cell("$not", A=[2], Y=[8]),
-                cell("$not", A=[3], Y=[8]),
-                cell("$not", A=[8], Y=[7]),
-                cell("$not", A=[7], Y=[4]),
-                read,
-            ],
-            "top: what y depends on has several drivers",
-        ),
-        (
-            [
-                cell("$not", A=[2], Y=[8]),
-                cell("$not", A=[3], Y=[8]),
-                cell("$not", A=[8], Y=[7]),
-                cell("$assert", A=[7]),
-            ],
-            "top: a net without a name has several drivers",
-        ),
-        # What nothing reads but the cell that drives it may be the variable of loops.
-        ([cell("$not", A=[2], Y=[4]), cell("$not", A=[3], Y=[4])], None),
-        (
-            [cell("$not", A=[2], Y=[4]), cell("$not", A=[4], Y=[7]), cell("$not", A=[3], Y=[4])],
-            None,
-        ),
-        (
-            [
-                cell("$not", A=[2], Y=[4]),
-                cell("$not", A=[4], Y=[7]),
-                cell("$not", A=[3], Y=[4]),
-                cell("$assert", A=[7]),
-            ],
-            "top: y has several drivers",
-        ),
-        # Two registers that nothing reads but what they take next, as the variable of loops in two
-        # blocks; and one of them read.
-        (
-            [
-                cell("$mux", A=[4], S=[2], Y=[7]),
-                cell("$dff", D=[7], Q=[4]),
-                cell("$mux", A=[4], S=[3], Y=[8]),
-                cell("$dff", D=[8], Q=[4]),
-            ],
-            None,
-        ),
-        (
-            [
-                cell("$mux", A=[4], S=[2], Y=[7]),
-                cell("$dff", D=[7], Q=[4]),
-                cell("$dff", D=[3], Q=[4]),
-                cell("$dff", D=[7], Q=[9]),
-                cell("$assert", A=[9]),
-            ],
-            "top: y has several drivers",
-        ),
-    ]
+# The nets of the modules below.
+NETS = {
+    "a": net(2),
+    "b": net(3),
+    "y": net(4),
+    "clk": net(5),
+    "q": net(6),
+    PLACED: net(7, hidden=1),
+    "$procmux$1_Y": net(8, hidden=1),
+}
+READ = cell("$assert", A=[4])
+# Cells, and why a module with them is refused.
+DRIVERS = [
+    ([cell("$not", A=[2], Y=[4]), READ], None),
+    (
+        [cell("$not", A=[2], Y=[4]), cell("$not", A=[3], Y=[4]), READ],
+        "top: y has several drivers",
+    ),
+    ([cell("$not", A=[2], Y=["0"])], "top: a constant has several drivers"),
+    ([cell("$not", A=["z"], Y=[4])], "top: y is z at times, and tristate is not taken"),
+    ([cell("$not", A=[3], Y=[2]), cell("$not", A=[2], Y=[4])], "top: a has several drivers"),
+    ([cell("$eqx", A=["z"], B=[3], Y=[4]), READ], None),
+    ([cell("$nex", A=["z"], B=[3], Y=[4]), READ], None),
+    (
+        [
+            cell("$eqx", A=[2], Y=[4]),
+            cell("$eqx", A=[3], Y=[4]),
+            cell("$nex", A=[3], Y=[4]),
+            READ,
+        ],
+        None,
+    ),
+    (
+        [{**cell("$assert", A=["z"]), "port_directions": {"A": "input"}}],
+        "top: a constant is z at times, and tristate is not taken",
+    ),
+    # Names that yosys made: one with a place, one on which y depends, and one on which nothing
+    # does that the design names.
+    (
+        [cell("$not", A=[2], Y=[7]), cell("$not", A=[3], Y=[7]), cell("$assert", A=[7])],
+        f"top: {PLACED} has several drivers",
+    ),
+    (
+        [
+            cell("$not", A=[2], Y=[8]),
+            cell("$not", A=[3], Y=[8]),
+            cell("$not", A=[8], Y=[7]),
+            cell("$not", A=[7], Y=[4]),
+            READ,
+        ],
+        "top: what y depends on has several drivers",
+    ),
+    (
+        [
+            cell("$not", A=[2], Y=[8]),
+            cell("$not", A=[3], Y=[8]),
+            cell("$not", A=[8], Y=[7]),
+            cell("$assert", A=[7]),
+        ],
+        "top: a net without a name has several drivers",
+    ),
+    # What nothing reads but the cell that drives it may be the variable of loops.
+    ([cell("$not", A=[2], Y=[4]), cell("$not", A=[3], Y=[4])], None),
+    (
+        [cell("$not", A=[2], Y=[4]), cell("$not", A=[4], Y=[7]), cell("$not", A=[3], Y=[4])],
+        None,
+    ),
+    (
+        [
+            cell("$not", A=[2], Y=[4]),
+            cell("$not", A=[4], Y=[7]),
+            cell("$not", A=[3], Y=[4]),
+            cell("$assert", A=[7]),
+        ],
+        "top: y has several drivers",
+    ),
+    # Two registers that nothing reads but what they take next, as the variable of loops in TWO
+    # blocks; and one of them read.
+    (
+        [
+            cell("$mux", A=[4], S=[2], Y=[7]),
+            cell("$dff", D=[7], Q=[4]),
+            cell("$mux", A=[4], S=[3], Y=[8]),
+            cell("$dff", D=[8], Q=[4]),
+        ],
+        None,
+    ),
+    (
+        [
+            cell("$mux", A=[4], S=[2], Y=[7]),
+            cell("$dff", D=[7], Q=[4]),
+            cell("$dff", D=[3], Q=[4]),
+            cell("$dff", D=[7], Q=[9]),
+            cell("$assert", A=[9]),
+        ],
+        "top: y has several drivers",
+    ),
+]
+
+
+@pytest.mark.parametrize("cells, wanted", DRIVERS)
+def test_drivers(checks: Checks, cells: list[dict[str, Any]], wanted: str | None) -> None:
+    """A net has one driver, which isn't z."""
+    checks.wants(
+        cells, wanted, is_refused(netlist.check_drivers, "top", module(NETS, cells, ["a", "b"]))
+    )
+
+
+def test_needed(checks: Checks) -> None:
+    """What assertions depend on."""
     checks.wants(
         "what is needed",
         {2, 4, 7, 9},
         netlist.needed(
             module(
-                nets,
+                NETS,
                 [
                     cell("$mux", A=[4], S=[2], Y=[7]),
                     cell("$dff", D=[7], Q=[4]),
@@ -1032,14 +1042,18 @@ def test_netlists(checks: Checks) -> None:
             )
         ),
     )
-    z = {**nets, "t": net(8, "z")}
+
+
+def test_drivers_of_outputs(checks: Checks) -> None:
+    """A net of a module's own, and an output, have one driver, too."""
+    z = {**NETS, "t": net(8, "z")}
     checks.wants(
         "a net",
         "top: t is z at times, and tristate is not taken",
         is_refused(netlist.check_drivers, "top", module(z, [], ["a"])),
     )
     output = {
-        **module(nets, [cell("$not", A=[2], Y=[4]), cell("$not", A=[3], Y=[4])]),
+        **module(NETS, [cell("$not", A=[2], Y=[4]), cell("$not", A=[3], Y=[4])]),
         "ports": {"y": {"direction": "output", "bits": [4]}},
     }
     checks.wants(
@@ -1051,72 +1065,93 @@ def test_netlists(checks: Checks) -> None:
     checks.wants(
         "an output without a driver", None, is_refused(netlist.check_drivers, "top", output)
     )
-    for cells, wanted in drivers:
-        checks.wants(
-            cells, wanted, is_refused(netlist.check_drivers, "top", module(nets, cells, ["a", "b"]))
-        )
-    two = [cell("$and", A=[2], B=[4], Y=[6]), cell("$or", A=[3], B=[6], Y=[4])]
-    loops = [
-        ([], []),
-        (two, ["q", "y"]),
-        (two[:1], []),
-        ([cell("$not", A=[4], Y=[4])], ["y"]),
-        ([cell("$not", A=[9], Y=[9])], []),
-        ([two[0], cell("$mux", A=[2], S=[3], B=[6], Y=[6])], ["q"]),
-        ([cell("$not", A=[2], Y=[4]), cell("$not", A=[4], Y=[6])], []),
-    ]
-    loops += [
-        ([two[0], cell(kind, D=[6], Q=[4])], [])
-        for kind in ["$dff", "$adffe", "$ff", "$_DFF_P_", "$dlatch", "$sr", "$_SR_PP_", "$anyinit"]
-    ]
-    loops += [([two[0], {**cell("$mem_v2", RD_ADDR=[6], Y=[4])}], [])]
-    for cells, wanted in loops:
-        checks.wants(
-            cells,
-            wanted,
-            netlist.loop_in(module({**nets, "$9": net(9, hidden=1)}, cells, ["a", "b"])),
-        )
-    register = cell("$dff", CLK=[5], D=[2], Q=[6])
-    falling = {**register, "parameters": {"CLK_POLARITY": "0"}}
-    clocks = [
-        ([], None),
-        ([register], ("clk", True)),
-        ([falling], ("clk", False)),
-        ([register, falling], "several clocks"),
-        ([register, cell("$not", A=[5], Y=[4])], "reads its clock clk"),
-        (
-            [cell("$dff", CLK=[4], D=[2], Q=[6])],
-            f"top makes its clock itself, and one that is an input is taken: y ({netlist.MANY})",
-        ),
-        ([cell("$dff", CLK=[7], D=[2], Q=[6])], f"taken: {PLACED} ("),
-        ([cell("$dff", CLK=[8], D=[2], Q=[6])], "taken: what q depends on ("),
-        (
-            [cell("$dff", CLK=[7], D=[2], Q=[6]), register],
-            f"top has several clocks, and one is taken: {PLACED} (rising) and clk (rising)",
-        ),
-    ]
-    many = (
-        "top has several clocks, and one is taken: clk (falling) and clk (rising) (--multiclock"
-        " takes any, and a step is then a moment in which inputs and clocks may change)"
+
+
+TWO = [cell("$and", A=[2], B=[4], Y=[6]), cell("$or", A=[3], B=[6], Y=[4])]
+# Cells, and the nets of a loop of theirs.
+LOOPS = [
+    ([], []),
+    (TWO, ["q", "y"]),
+    (TWO[:1], []),
+    ([cell("$not", A=[4], Y=[4])], ["y"]),
+    ([cell("$not", A=[9], Y=[9])], []),
+    ([TWO[0], cell("$mux", A=[2], S=[3], B=[6], Y=[6])], ["q"]),
+    ([cell("$not", A=[2], Y=[4]), cell("$not", A=[4], Y=[6])], []),
+]
+LOOPS += [
+    ([TWO[0], cell(kind, D=[6], Q=[4])], [])
+    for kind in ["$dff", "$adffe", "$ff", "$_DFF_P_", "$dlatch", "$sr", "$_SR_PP_", "$anyinit"]
+]
+LOOPS += [([TWO[0], {**cell("$mem_v2", RD_ADDR=[6], Y=[4])}], [])]
+
+
+@pytest.mark.parametrize("cells, wanted", LOOPS)
+def test_loops(checks: Checks, cells: list[dict[str, Any]], wanted: list[str]) -> None:
+    """A loop is found unless a register or a memory is in it."""
+    own = module({**NETS, "$9": net(9, hidden=1)}, cells, ["a", "b"])
+    checks.wants(cells, wanted, netlist.loop_in(own))
+
+
+REGISTER = cell("$dff", CLK=[5], D=[2], Q=[6])
+FALLING = {**REGISTER, "parameters": {"CLK_POLARITY": "0"}}
+# Cells, and the clock that they have, or a part of why it isn't taken.
+CLOCKS: list[tuple[list[dict[str, Any]], Any]] = [
+    ([], None),
+    ([REGISTER], ("clk", True)),
+    ([FALLING], ("clk", False)),
+    ([REGISTER, FALLING], "several clocks"),
+    ([REGISTER, cell("$not", A=[5], Y=[4])], "reads its clock clk"),
+    (
+        [cell("$dff", CLK=[4], D=[2], Q=[6])],
+        f"top makes its clock itself, and one that is an input is taken: y ({netlist.MANY})",
+    ),
+    ([cell("$dff", CLK=[7], D=[2], Q=[6])], f"taken: {PLACED} ("),
+    ([cell("$dff", CLK=[8], D=[2], Q=[6])], "taken: what q depends on ("),
+    (
+        [cell("$dff", CLK=[7], D=[2], Q=[6]), REGISTER],
+        f"top has several clocks, and one is taken: {PLACED} (rising) and clk (rising)",
+    ),
+    ([REGISTER, cell("$dff", CLK=[5], D=[6], Q=[5])], ("clk", True)),
+]
+BOTH_EDGES = (
+    "top has several clocks, and one is taken: clk (falling) and clk (rising) (--multiclock"
+    " takes any, and a step is then a moment in which inputs and clocks may change)"
+)
+
+
+@pytest.mark.parametrize("cells, wanted", CLOCKS)
+def test_clock(checks: Checks, cells: list[dict[str, Any]], wanted: Any) -> None:
+    """All registers have one clock, which is an input and which nothing else reads."""
+    own = module(NETS, cells, ["clk"])
+    given = is_refused(netlist.clock_of, "top", own)
+    is_same = wanted in given if given else netlist.clock_of("top", own) == wanted
+    checks.check(is_same, f"the clock of {cells} is {wanted}, and {given}")
+
+
+@pytest.mark.parametrize("port", ["RD_CLK", "WR_CLK"])
+def test_clock_of_memory(checks: Checks, port: str) -> None:
+    """The clock of a memory's port, which rises where nothing else is said."""
+    memory = {
+        **cell("$mem_v2", **{port: [5]}),
+        "port_directions": {port: "input"},
+        "parameters": {f"{port}_POLARITY": "0001"},
+    }
+    checks.wants(port, ("clk", True), netlist.clock_of("top", module(NETS, [memory], ["clk"])))
+    memory["parameters"] = {}
+    checks.wants(
+        f"{port} by default",
+        ("clk", True),
+        netlist.clock_of("top", module(NETS, [memory], ["clk"])),
     )
+
+
+def test_refused_clocks(checks: Checks) -> None:
+    """Both edges of a clock, a constant, and a name that yosys can't read."""
     checks.wants(
         "both edges",
-        many,
-        is_refused(netlist.clock_of, "top", module(nets, [register, falling], ["clk"])),
+        BOTH_EDGES,
+        is_refused(netlist.clock_of, "top", module(NETS, [REGISTER, FALLING], ["clk"])),
     )
-    for port in "RD_CLK", "WR_CLK":
-        memory = {
-            **cell("$mem_v2", **{port: [5]}),
-            "port_directions": {port: "input"},
-            "parameters": {f"{port}_POLARITY": "0001"},
-        }
-        checks.wants(port, ("clk", True), netlist.clock_of("top", module(nets, [memory], ["clk"])))
-        memory["parameters"] = {}
-        checks.wants(
-            f"{port} by default",
-            ("clk", True),
-            netlist.clock_of("top", module(nets, [memory], ["clk"])),
-        )
     checks.wants(
         "a constant",
         "top makes its clock itself, and one that is an input is taken: a constant",
@@ -1125,7 +1160,7 @@ def test_netlists(checks: Checks) -> None:
                 netlist.clock_of,
                 "top",
                 module(
-                    nets, [{**register, "connections": {"CLK": ["0"], "D": [2], "Q": [6]}}], ["clk"]
+                    NETS, [{**REGISTER, "connections": {"CLK": ["0"], "D": [2], "Q": [6]}}], ["clk"]
                 ),
             )
         ).partition(" (")[0],
@@ -1134,17 +1169,12 @@ def test_netlists(checks: Checks) -> None:
     checks.wants(
         "an odd name",
         "top has the clock a;, and in a script of yosys a name can't end so",
-        is_refused(netlist.clock_of, "top", module(odd, [register], ["a;"])),
+        is_refused(netlist.clock_of, "top", module(odd, [REGISTER], ["a;"])),
     )
-    clocks += [([register, cell("$dff", CLK=[5], D=[6], Q=[5])], ("clk", True))]
-    for cells, wanted in clocks:
-        given = is_refused(netlist.clock_of, "top", module(nets, cells, ["clk"]))
-        same = (
-            wanted in given
-            if given
-            else netlist.clock_of("top", module(nets, cells, ["clk"])) == wanted
-        )
-        checks.check(same, f"the clock of {cells} is {wanted}, and {given}")
+
+
+def test_free_names(checks: Checks) -> None:
+    """Names of free values are the design's."""
     free = {
         "d": net(8, 9),
         "d$[2:0]": net(8, 9),
@@ -1157,6 +1187,16 @@ def test_netlists(checks: Checks) -> None:
     }
     given = dict(netlist.free_names(module(free, [], ["d$[2:0]", "e$[4:3]", "$1", "$2", "g$[2:0"])))
     checks.wants("free values", {"d$[2:0]": "d[1:0]", "$1": "x1", "$2": "x2"}, given)
+    given = dict(
+        netlist.free_names(
+            module({"$1": net(1, hidden=1), "d$[2:0]e": net(2)}, [], ["$1", "d$[2:0]e"])
+        )
+    )
+    checks.wants("the first", {"$1": "x0"}, given)
+
+
+def test_stored_names(checks: Checks) -> None:
+    """Names of what a register with an asynchronous reset stores."""
     checks.wants(
         "what is stored", ["q.stored", "q.stored[3]"], list(map(netlist.stored_name, ["q", "q[3]"]))
     )
@@ -1173,12 +1213,6 @@ def test_netlists(checks: Checks) -> None:
             netlist.all_names("r[3]", {"q": ["r"]}),
         ),
     )
-    given = dict(
-        netlist.free_names(
-            module({"$1": net(1, hidden=1), "d$[2:0]e": net(2)}, [], ["$1", "d$[2:0]e"])
-        )
-    )
-    checks.wants("the first", {"$1": "x0"}, given)
     checks.wants("a pattern", "u\\.q\\[3\\]", netlist.pattern_of("u.q[3]"))
 
 
