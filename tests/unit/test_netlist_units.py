@@ -413,13 +413,15 @@ FAULTS = [
 ]
 
 
-def test_verilog(checks: Checks) -> None:
-    """Texts in Verilog."""
-    for text, wanted in FAULTS:
-        given = is_refused(
-            Text(f'`file_push "t.v"\nmodule top; {text}\nendmodule\n'.encode()).check, {"top"}
-        )
-        checks.wants(text, wanted, given)
+@pytest.mark.parametrize("text, wanted", FAULTS)
+def test_verilog(checks: Checks, text: str, wanted: str | None) -> None:
+    """What a module's text in Verilog may not have."""
+    made = Text(f'`file_push "t.v"\nmodule top; {text}\nendmodule\n'.encode())
+    checks.wants(text, wanted, is_refused(made.check, {"top"}))
+
+
+def test_other_texts(checks: Checks) -> None:
+    """A comment without an end, and what isn't in a module."""
     checks.wants(
         "a comment",
         "t.v:2: a comment isn't ended",
@@ -429,6 +431,10 @@ def test_verilog(checks: Checks) -> None:
     checks.wants("outside of all", f"t.v:1: {ENDLESS}", is_refused(Text(outside).check, {"top"}))
     behind = b'`file_push "t.v"\nmodule other; endmodule always a = 1;\nmodule top; endmodule\n'
     checks.wants("behind one", f"t.v:1: {ENDLESS}", is_refused(Text(behind).check, {"top"}))
+
+
+def test_places(checks: Checks) -> None:
+    """The file and the line of a place."""
     nested = (
         b'`file_push "t.v"\n\n`file_push "u.v"\n\n\nX\n`file_pop\n\nY\n`file_pop\nZ\n`file_pop\nW'
     )
@@ -439,6 +445,10 @@ def test_verilog(checks: Checks) -> None:
         [text.place(nested.index(sign)) for sign in (b"X", b"Y", b"Z", b"W")],
     )
     checks.wants("no file", [":0", ":1"], [Text(b"a\nb").place(place) for place in (0, 2)])
+
+
+def test_modules(checks: Checks) -> None:
+    """Where modules are in a text."""
     spans = (
         b"module a; endmodule\n`default_nettype none\nmodule automatic b;"
         b" endmodule\n`default_nettype  wire\nmacromodule \\c+ ; `define x\nendmodule module `x"
@@ -458,6 +468,10 @@ def test_verilog(checks: Checks) -> None:
         ["a", None, "b"],
         [Text(spans).module(place) for place in (0, spans.index(b"endmodule"), spans.index(b"b;"))],
     )
+
+
+def test_changed_texts(checks: Checks) -> None:
+    """A text with other lines, and without comments and strings."""
     checks.wants(
         "lines",
         b"module a; x endmodule module b; endmodule z",
@@ -466,21 +480,36 @@ def test_verilog(checks: Checks) -> None:
     checks.wants(
         "words", b"a     \n   b " + b" " * 6, Text(b'a /* c\n*/ b "\\"d" '[:-1] + b" ").words
     )
-    for given, wanted in [
+
+
+@pytest.mark.parametrize(
+    "given, wanted",
+    [
         ({"a.v": b"module m; endmodule bind m.x s t(.a(b));"}, f":0: {BINDING}"),
         ({"a.v": b"bind m s t(.a(b));"}, f"m: {BINDING}"),
         ({"a.v": b"bind m s t;\n", "b.v": b"module m; endmodule bind m u v;"}, None),
         ({"a.v": b"wire a_bind, bind_a;"}, None),
         ({"a.v": b"wire bin ;"}, None),
         ({"a.v": b"module m; endmodule bind m #(1) s t;"}, f":0: {BINDING}"),
-    ]:
-        checks.wants(given, wanted, is_refused(bound, given))
+    ],
+)
+def test_binding(checks: Checks, given: dict[str, bytes], wanted: str | None) -> None:
+    """What is bound to a module in a way that isn't read."""
+    checks.wants(given, wanted, is_refused(bound, given))
+
+
+def test_bound_twice(checks: Checks) -> None:
+    """Two bound instances are put into their module."""
     twice = {"a.v": b"bind m s t;\n", "b.v": b"module m; endmodule bind m\nu  v;"}
     checks.wants(
         "bound twice",
         {"a.v": b"           \n", "b.v": b"module m; s t; u v; endmodule       \n     "},
         bound(twice),
     )
+
+
+def test_dumps(checks: Checks) -> None:
+    """What yosys prints of texts, and their folders."""
     dump = (
         b"-- Verilog code after preprocessor --\na\n-- END OF DUMP --\nsaid\n-- Verilog code after"
         b" preprocessor --\n-- END OF DUMP --\n"
@@ -536,7 +565,7 @@ end
 
 
 def test_hierarchy(checks: Checks) -> None:
-    """Which modules and cells a design has, and paths of its nets."""
+    """Which modules and cells a design has."""
     design = parse(MANY)
     cells = list(modules.cells_of(design))
     wanted = [
@@ -556,6 +585,10 @@ def test_hierarchy(checks: Checks) -> None:
         [{"top", "low"}, {"alone"}],
         [modules.reached(cells, name) for name in ["top", "alone"]],
     )
+
+
+def test_paths(checks: Checks) -> None:
+    """Paths of a design's nets."""
     nets = {
         "a.b": {"attributes": {"hdlname": "a b"}},
         "c": {"attributes": {}},
@@ -576,6 +609,10 @@ def test_hierarchy(checks: Checks) -> None:
         [given[name] for name in ["a.b", "u.f.j", "k.l.m", "k.l.g.n"]],
     )
     checks.wants("no paths", set(), {"c", "d", "e"} & given.keys())
+
+
+def test_widths(checks: Checks) -> None:
+    """How many bits a wire has."""
     widths = [
         modules.width_of(Statement("wire", text))
         for text in ["\\a", "width 3 \\a", "input 1 \\width", "width 3 offset 2 input 1 \\a"]
@@ -845,48 +882,57 @@ def test_names(checks: Checks) -> None:
     checks.wants("outputs", [4], netlist.outputs(cell("$not", A=[2], Y=[4])))
 
 
-def test_stored(checks: Checks) -> None:
+# A choice of what a register holds or its reset, nets, and cells with the names of what is stored.
+RESET = cell("$mux", A=[7], B=["0"], S=[2], Y=[8])
+STORING = {"$7": net(7, hidden=1), "q": net(8), "r": net(2)}
+STORED = [
+    ("a register", STORING, [cell("$ff", D=[3], Q=[7]), RESET], [("$7", "q.stored")]),
+    (
+        "the other side",
+        STORING,
+        [
+            cell("$ff", D=[3], Q=[7]),
+            {**RESET, "connections": {"A": ["0"], "B": [7], "S": [2], "Y": [8]}},
+        ],
+        [("$7", "q.stored")],
+    ),
+    ("no register", STORING, [cell("$not", A=[3], Y=[7]), RESET], []),
+    ("no choice", STORING, [cell("$ff", D=[3], Q=[7]), {**RESET, "type": "$and"}], []),
+    ("a name", {**STORING, "s": net(7)}, [cell("$ff", D=[3], Q=[7]), RESET], []),
+    ("another one", {**STORING, "q.stored": net(9)}, [cell("$ff", D=[3], Q=[7]), RESET], []),
+    (
+        "a bit",
+        {"$7": net(7, hidden=1), "w": net(9, 8)},
+        [cell("$ff", D=[3], Q=[7]), RESET],
+        [("$7", "w.stored[1]")],
+    ),
+    (
+        "a hidden name",
+        {"$7": net(7, hidden=1), "$8": net(8, hidden=1)},
+        [cell("$ff", D=[3], Q=[7]), RESET],
+        [],
+    ),
+    ("two", STORING, [cell("$ff", D=[3], Q=[7]), RESET, RESET], [("$7", "q.stored")]),
+    (
+        "the outermost",
+        {**STORING, "u.q": net(8), "v": net(7, hidden=1)},
+        [cell("$ff", D=[3], Q=[7]), RESET],
+        [("v", "q.stored")],
+    ),
+]
+
+
+@pytest.mark.parametrize("what, nets, cells, wanted", STORED)
+def test_stored(
+    checks: Checks,
+    what: str,
+    nets: dict[str, Any],
+    cells: list[dict[str, Any]],
+    wanted: list[tuple[str, str]],
+) -> None:
     """What registers with an asynchronous reset hold, whose names have their values with the
     reset."""
-    reset = cell("$mux", A=[7], B=["0"], S=[2], Y=[8])
-    nets = {"$7": net(7, hidden=1), "q": net(8), "r": net(2)}
-    rows = [
-        ("a register", nets, [cell("$ff", D=[3], Q=[7]), reset], [("$7", "q.stored")]),
-        (
-            "the other side",
-            nets,
-            [
-                cell("$ff", D=[3], Q=[7]),
-                {**reset, "connections": {"A": ["0"], "B": [7], "S": [2], "Y": [8]}},
-            ],
-            [("$7", "q.stored")],
-        ),
-        ("no register", nets, [cell("$not", A=[3], Y=[7]), reset], []),
-        ("no choice", nets, [cell("$ff", D=[3], Q=[7]), {**reset, "type": "$and"}], []),
-        ("a name", {**nets, "s": net(7)}, [cell("$ff", D=[3], Q=[7]), reset], []),
-        ("another one", {**nets, "q.stored": net(9)}, [cell("$ff", D=[3], Q=[7]), reset], []),
-        (
-            "a bit",
-            {"$7": net(7, hidden=1), "w": net(9, 8)},
-            [cell("$ff", D=[3], Q=[7]), reset],
-            [("$7", "w.stored[1]")],
-        ),
-        (
-            "a hidden name",
-            {"$7": net(7, hidden=1), "$8": net(8, hidden=1)},
-            [cell("$ff", D=[3], Q=[7]), reset],
-            [],
-        ),
-        ("two", nets, [cell("$ff", D=[3], Q=[7]), reset, reset], [("$7", "q.stored")]),
-        (
-            "the outermost",
-            {**nets, "u.q": net(8), "v": net(7, hidden=1)},
-            [cell("$ff", D=[3], Q=[7]), reset],
-            [("v", "q.stored")],
-        ),
-    ]
-    for what, own, cells, wanted in rows:
-        checks.wants(what, wanted, list(netlist.stored(module(own, cells))))
+    checks.wants(what, wanted, list(netlist.stored(module(nets, cells))))
 
 
 # How yosys calls what an expression in line 2 of a file computes, in an instance.
@@ -1216,18 +1262,24 @@ def test_stored_names(checks: Checks) -> None:
     checks.wants("a pattern", "u\\.q\\[3\\]", netlist.pattern_of("u.q[3]"))
 
 
-def test_orders(checks: Checks) -> None:
-    """The order of properties, and names of assertions without a label."""
-    inner = [
+@pytest.mark.parametrize(
+    "name, is_named, path",
+    [
         ("$flatten\\u.\\v.$assert$t.v:1$2", False, "u.v"),
         ("$flatten\\g[0].\\odd.l.$live$t.v:1$2", False, "g[0].odd.l"),
         ("l", True, "l"),
         ("$assert$t.v:1$2", False, ""),
         ("$flatten\\?u.$assert$t.v:1$2", False, "?u"),
         ("$flatten\\u.$assert$t.v:1$2", True, "$flatten\\u.$assert$t.v:1$2"),
-    ]
-    for name, is_named, path in inner:
-        checks.wants(name, path, Assertion(name, "", is_named).path)
+    ],
+)
+def test_paths_of_assertions(checks: Checks, name: str, is_named: bool, path: str) -> None:
+    """Names of assertions without a label."""
+    checks.wants(name, path, Assertion(name, "", is_named).path)
+
+
+def test_orders(checks: Checks) -> None:
+    """The order of properties."""
     given = [
         ("b", "b.v:1.1-1.2"),
         ("g[10]", "a.v:9.3-9.4"),
@@ -1246,6 +1298,10 @@ def test_orders(checks: Checks) -> None:
         ["f", "g[9]", "g[10]", "d", "c", "i", "i0", "b", "h", "e"],
         [given[i][0] for i in order],
     )
+
+
+def test_ordered(checks: Checks) -> None:
+    """A file whose properties are put in an order."""
     # A latch and an output, then three bad states and a constraint, or two justice properties and a
     # fairness constraint, and a gate.
     bads = b"aig 3 1 1 1 1 3 1\n4 1\n2\n4\n5\n6\n7\n\x02\x02i0 a\nc\n4\n"
