@@ -31,18 +31,30 @@ LISTED = harness.TESTS / "mutants.tsv"
 # By the module: its unit tests, as functions of test modules, or as all tests of one.
 NETLISTS = [("test_netlist_units", "")]
 REWRITING = [("test_rewriting_units", "test_texts")]
-NAMES = [("test_design_units", f"test_{name}") for name in [
-    "trees", "shapes", "module_units", "hierarchies", "declared", "unknown", "checked"]]
-YOSYS = [
-    ("test_design_units", f"test_{name}")
-    for name in ["copies", "many", "files_of", "told", "runs", "full", "reads", "front_ends"]
-]
-READING = [("test_design_units", f"test_{name}") for name in [
-    "one_reading", "refusals", "rewriting", "opening", "tops", "features", "resets", "looking_up"]]
-DESIGNS = [
-    ("test_design_units", f"test_{name}")
-    for name in ["made_files", "sizes", "bad_designs", "loops", "without_abc", "replays"]
-]
+
+
+def of_designs(names):
+    """Unit tests of designs, by the words behind `test_`."""
+    return [("test_design_units", f"test_{name}") for name in names.split()]
+
+
+NAMES = of_designs("""
+    trees nodes nets_of_trees shapes module_units driven hierarchies signals odd_paths
+    is_declared interfaces declared declared_unused not_declared declared_several unknown
+    checked not_as_declared declared_again
+""")
+YOSYS = of_designs("""
+    copies links many files_of told runs late_runs full reads reads_late front_ends
+""")
+READING = of_designs("""
+    one_reading reading_options reading_files refusals late_reading rewriting rewritten_again
+    not_rewritten opening tops tops_by_options better_top asked_below parameters features freed
+    resets resets_of_clocks looking_up looking_up_faults looking_up_bound looking_up_misread
+""")
+DESIGNS = of_designs("""
+    made_files ordered_files made_with_reset made_kinds maps free_values sizes failing
+    bad_designs no_clock odd_tops loops without_abc replays replays_of_clocks spelled
+""")
 CHECKER = [("test_checker_units", "")]
 UNITS = {
     "designs/rtlil.py": [
