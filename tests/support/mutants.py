@@ -71,7 +71,10 @@ UNITS = {
     "designs/statements.py": [("test_rewriting_units", "test_statements"), *REWRITING],
     "designs/properties.py": [("test_rewriting_units", "test_written_properties"), *REWRITING],
     "designs/rewriting.py": REWRITING,
-    "designs/sensitivity.py": [("test_rewriting_units", "test_lists")],
+    "designs/sensitivity.py": [
+        ("test_rewriting_units", "test_lists"),
+        ("test_rewriting_units", "test_lists_of_modules"),
+    ],
     "designs/labels.py": [("test_rewriting_units", "test_generated")],
     "designs/texts.py": [*NETLISTS, *REWRITING],
     "designs/names.py": NAMES,
