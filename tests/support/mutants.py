@@ -60,11 +60,17 @@ UNITS = {
     "designs/rtlil.py": [
         ("test_rtlil", "test_line"),
         ("test_rtlil", "test_signals"),
+        ("test_rtlil", "test_spelled"),
+        ("test_rtlil", "test_constant"),
         ("test_rtlil", "test_refused"),
         ("test_rtlil", "test_process"),
         *NETLISTS,
     ],
-    "designs/modules.py": [*NETLISTS, ("test_rewriting_units", "test_generated")],
+    "designs/modules.py": [
+        *NETLISTS,
+        ("test_rewriting_units", "test_generated"),
+        ("test_rewriting_units", "test_alike"),
+    ],
     "designs/netlist.py": NETLISTS,
     "designs/registers.py": NETLISTS,
     "designs/ordering.py": NETLISTS,

@@ -91,7 +91,10 @@ LET_GO = [
     ("  wire width 4 \\v\n" + EDGES.format("4'x", "posedge \\rst") + "  connect \\y \\v\n", False),
     ("  wire width 4 \\v\n" + EDGES.format("$0\\v", "posedge \\rst"), False),
     ("  wire width 4 \\v\n" + EDGES.format("4'00xx", "posedge \\rst"), False),
-    ("  wire width 4 \\v\n" + EDGES.format("4'x", "always"), False),
+    *(
+        ("  wire width 4 \\v\n" + EDGES.format("4'x", untimed), False)
+        for untimed in ["always", "init", "global"]
+    ),
     (
         "  wire width 8 \\v\n"
         + EDGES.format("4'x", "posedge \\rst").replace("update \\v", "update \\v [3:0]"),
@@ -311,6 +314,7 @@ GIVEN_ONCE = [
     ("  connect { \\a [0] \\b } { 1'1 \\c }\n  connect \\b 1'1\n  connect \\y \\b\n", None),
     ("  connect \\a { 1'1 \\c }\n  connect \\a 2'01\n  connect \\y \\a\n", None),
     ("  connect \\u 2'10\n  connect \\u 2'00\n  connect \\y { \\u \\u \\u }\n", None),
+    ("  connect \\a \\c\n  connect \\a \\d\n  connect \\a 2'00\n  connect \\y \\a\n", None),
     (
         "".join(
             ONCE.format(i, text).replace("$0\\a 3", "{ $0\\a \\b } 3")

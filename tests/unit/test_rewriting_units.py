@@ -539,6 +539,9 @@ def test_texts(checks: Checks) -> None:
         b"translate_on" not in unread(whole) and Text(unread(whole)).words != Text(whole).words,
         "a comment goes on",
     )
+    off = b"/* synthesis translate_off */"
+    checks.wants("another word", off + b"translate_it", unread(b"translate_it"))
+    checks.wants("its own comment", b"translate-it" + off, read_again(off + b"translate-it" + off))
 
 
 def test_generated(checks: Checks) -> None:
@@ -554,27 +557,22 @@ def test_generated(checks: Checks) -> None:
         for old, cell in zip(AT, [cell for cell in module.of("cell") if cell.type != "$logic_or"])
     }
     checks.wants("names", AT, again)
-    for cells, wanted in [
-        ("$a1 $a1", True),
-        ("$a1", False),
-        ("$a1 \\l", False),
-        ("\\l \\m", False),
-    ]:
-        text = "".join(
-            f'  attribute \\src "t.v:1.1-2.2"\n  cell $assert {cell}{i if cell[0] == "$" else ""}\n'
-            "  end\n"
-            for i, cell in enumerate(cells.split())
-        )
-        checks.wants(
-            cells,
-            wanted,
-            are_alike(
-                parse(
-                    f"module \\top\n{text}end\nmodule"
-                    f" \\other\n{text if len(cells) < 6 else ''}end\n"
-                )
-            ),
-        )
+
+
+@pytest.mark.parametrize("kind", ["$assert", "$assume", "$cover", "$live", "$fair"])
+@pytest.mark.parametrize(
+    "cells, wanted",
+    [("$a1 $a1", True), ("$a1", False), ("$a1 \\l", False), ("\\l \\m", False)],
+)
+def test_alike(checks: Checks, kind: str, cells: str, wanted: bool) -> None:
+    """Whether several assertions of a module have one place, and no names."""
+    names = [f"{cell}{i}" if cell[0] == "$" else cell for i, cell in enumerate(cells.split())]
+    text = "".join(
+        f'  attribute \\src "t.v:1.1-2.2"\n  cell {kind} {name}\n  end\n' for name in names
+    )
+    other = text if len(cells) < 6 else ""
+    design = parse(f"module \\top\n{text}end\nmodule \\other\n{other}end\n")
+    checks.wants(cells, wanted, are_alike(design))
 
 
 # The nets of modules, and blocks with what they read and don't wait for.
