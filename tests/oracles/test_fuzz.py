@@ -170,7 +170,7 @@ def test_row(tool, name):
     check(tool, ROWS[name], "1", [])
 
 
-@cases(150, 20000)
+@cases(600, 20000)
 @given(rng=choices())
 def test_damaged(tool, checks, rng):
     """A random file, damaged a few times or not at all."""
