@@ -88,7 +88,7 @@ def pytest_configure(config: pytest.Config) -> None:
         deadline=None,
         database=DirectoryBasedExampleDatabase(str(FAILED / "examples")),
         suppress_health_check=list(hypothesis.HealthCheck),
-        print_blob=True,
+        print_blob=False,
     )
     hypothesis.settings.load_profile("aig")
 

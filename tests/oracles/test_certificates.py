@@ -384,7 +384,7 @@ def test_engine(folder, engine):
 
 @pytest.mark.cadical
 @pytest.mark.abc
-@cases(6, 60)
+@cases(6, 300)
 @given(rng=choices())
 def test_random_machine(folder, checks, rng):
     """What aigprove writes of a random machine is a witness circuit."""

@@ -186,20 +186,9 @@ def asked(design, text, folder, words):
     """The status and the rows of a table of a design, and what is wrong of what goes with it."""
     folder.mkdir()
     (folder / "design.v").write_text(text)
-    words = [
-        "--each",
-        "--keep",
-        "kept",
-        "--json",
-        "out.json",
-        "--junit",
-        "out.xml",
-        "--vcd",
-        "runs",
-        *words,
-        "design.v",
-    ]
-    status, printed, said = harness.run([PROVE, *words], cwd=folder, timeout=600)
+    outs = ["--keep", "kept", "--json", "out.json", "--junit", "out.xml", "--vcd", "runs"]
+    words = [PROVE, "--each", *outs, *words, "design.v"]
+    status, printed, said = harness.run(words, cwd=folder, timeout=600)
     printed = printed.decode()
     if not (folder / "out.json").exists():
         return status, {}, [f"status {status}: {printed} {said.decode()}"]
@@ -452,9 +441,27 @@ def emptied(name):
     return lambda folder: (folder / name).write_text("")
 
 
-def spread_faults(checks, folder):
-    """Tasks on two machines, and what is planted there."""
-    made = Spread(folder)
+# What is gathered of the tasks: two safe properties, and a run to the third.
+SPREAD = {"states.legal": "holds", "states.rom_ok": "holds", "states.seven": "fails at step 16"}
+# Wrong lines and wrong proofs, by the parts in which they are planted.
+PLANTS = [
+    ("property-2-pdr", swap('"b2 at step 16"', '"b2 at step 3"')),
+    (
+        "property-2-bmc3",
+        swap('"b2 at step 16", "by": ["run"', '"b2: no bad state at any step", "by": ["run"'),
+    ),
+    ("property-2-pdr", swap('"b2 at step 16"', '"b1 at step 16"')),
+    ("property-0-pdr", emptied("step")),
+    ("property-1-pdr", swap('"certified", "file.aig"', '"certified", "other.aig"')),
+    ("property-1-pdr", swap('"b1: no bad state at any step"', '"b2: no bad state at any step"')),
+    ("property-1-pdr", swap('"--property", "1"', '"--property", "9"')),
+    ("property-1-pdr", swap('"--property", "1"', '"--limit", "9"')),
+    ("property-1-pdr", swap('"--property", "1"', '"--property", "1", "--justice", "0"')),
+]
+
+
+def check_spread(checks, made):
+    """Tasks on two machines, and what is gathered of them."""
     for words in REFUSED:
         status, printed, _ = made.run([PROVE, *words.split(), "states.sv"])
         checks.wants(words, (2, ""), (status, printed))
@@ -465,48 +472,37 @@ def spread_faults(checks, folder):
         all(list((machine / "run").glob("property-*")) for machine in made.machines),
         f"one machine did nothing: {said}",
     )
-    wanted = {"states.legal": "holds", "states.rom_ok": "holds", "states.seven": "fails at step 16"}
-    checks.wants("gathered", (10, wanted, ""), made.gathered())
+    checks.wants("gathered", (10, SPREAD, ""), made.gathered())
     for _ in range(2):
         status, printed, said = made.run([PROVE, "--each", "--keep", "run", "states.sv"])
-        checks.wants("gone on", (10, wanted, ""), (status, rows(printed), said))
-        checks.wants("shown again", wanted, rows(harness.shown_again(folder / "run") or ""))
-    # Wrong lines and wrong proofs: without what shows them, no one is taken, and each is told of.
-    run = folder / "run"
-    plants = [
-        ("property-2-pdr", swap('"b2 at step 16"', '"b2 at step 3"')),
-        (
-            "property-2-bmc3",
-            swap('"b2 at step 16", "by": ["run"', '"b2: no bad state at any step", "by": ["run"'),
-        ),
-        ("property-2-pdr", swap('"b2 at step 16"', '"b1 at step 16"')),
-        ("property-0-pdr", emptied("step")),
-        ("property-1-pdr", swap('"certified", "file.aig"', '"certified", "other.aig"')),
-        (
-            "property-1-pdr",
-            swap('"b1: no bad state at any step"', '"b2: no bad state at any step"'),
-        ),
-        ("property-1-pdr", swap('"--property", "1"', '"--property", "9"')),
-        ("property-1-pdr", swap('"--property", "1"', '"--limit", "9"')),
-        ("property-1-pdr", swap('"--property", "1"', '"--property", "1", "--justice", "0"')),
-    ]
-    for part, change in plants:
+        checks.wants("gone on", (10, SPREAD, ""), (status, rows(printed), said))
+        checks.wants("shown again", SPREAD, rows(harness.shown_again(made.folder / "run") or ""))
+
+
+def check_plants(checks, made):
+    """Of what doesn't show its line none is taken, and each is told of."""
+    for part, change in PLANTS:
         planted = made.plant(part, change)
         status, given, said = made.gathered()
         checks.wants(
             f"{part} planted",
-            (10, wanted, True),
-            (status, given, f"{planted.relative_to(folder)}: not shown: " in said),
+            (10, SPREAD, True),
+            (status, given, f"{planted.relative_to(made.folder)}: not shown: " in said),
         )
         shutil.rmtree(planted)
     planted = made.plant("property-0-pdr", swap('"steps"', '"stairs"'))
     status, given, said = made.gathered()
     checks.wants(
         "another form",
-        (10, wanted, True),
+        (10, SPREAD, True),
         (status, given, f"{planted.name}: evidence.json has another form" in said),
     )
     shutil.rmtree(planted)
+
+
+def check_moved(checks, made):
+    """What is kept of another property, and of another file."""
+    run = made.folder / "run"
     for part in ["property-0-pdr", "property-0-bmc3"]:
         shutil.rmtree(run / part)
     shutil.copytree(run / "property-1-pdr", run / "property-0-pdr")
@@ -576,18 +572,8 @@ def judge_fair(checks, machine, folder):
     def run(*words):
         return harness.run([PROVE, *words], cwd=folder)
 
-    status, printed, said = run(
-        "--each",
-        "--keep",
-        "kept",
-        "--witness",
-        "runs",
-        "--json",
-        "out.json",
-        "--junit",
-        "out.xml",
-        "file",
-    )
+    outs = ["--keep", "kept", "--witness", "runs", "--json", "out.json", "--junit", "out.xml"]
+    status, printed, said = run("--each", *outs, "file")
     given, wanted, text = rows(printed.decode()), fair_wanted(machine), machine.text()
     is_empty = b"the answer is empty" in printed
     checks.wants(
@@ -629,7 +615,10 @@ def test_table(folder, checks, design):
 @pytest.mark.parallel
 def test_spread(folder, checks):
     """Tasks on two machines are gathered, and what is planted there isn't taken."""
-    spread_faults(checks, folder)
+    made = Spread(folder)
+    check_spread(checks, made)
+    check_plants(checks, made)
+    check_moved(checks, made)
 
 
 @pytest.mark.cadical

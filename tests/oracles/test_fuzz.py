@@ -13,8 +13,8 @@ import resource
 import harness
 import pytest
 from damaged import made_file
-from hypothesis import given, note
-from strategies import cases, choices
+from hypothesis import given
+from strategies import cases, choices, note
 
 SECTIONS = ["inputs", "latches", "outputs", "bads", "constraints", "justice", "fairness", "gates"]
 TEXTS = {
@@ -170,7 +170,7 @@ def test_row(tool, name):
     check(tool, ROWS[name], "1", [])
 
 
-@cases(150, 20000)
+@cases(600, 20000)
 @given(rng=choices())
 def test_damaged(tool, checks, rng):
     """A random file, damaged a few times or not at all."""

@@ -10,6 +10,7 @@ or in all: wherever the pairs are equal that a certificate keeps, the pairs that
 are."""
 from __future__ import annotations
 
+import functools
 import random
 import types
 
@@ -30,6 +31,7 @@ def every(count: int) -> int:
     return (1 << (1 << count)) - 1
 
 
+@functools.cache
 def values(count: int) -> list[int]:
     """By variable from 1 on, the bits that say where it is true."""
     return [0, *(every(count) // ((1 << (1 << i)) + 1) << (1 << i) for i in range(count))]
@@ -129,21 +131,22 @@ class Question:
 
 def check_question(question: Question, checks: Checks) -> None:
     """What is merged of a question."""
-    merging, clauses = Merging(question.text().encode()), question.clauses()
+    text, clauses = question.text(), question.clauses()
+    merging = Merging(text.encode())
     for lemma in clauses_in(merging.proof()):
-        checks.check(follows(clauses, lemma), f"{lemma} doesn't follow: {question.text()}")
+        checks.check(follows(clauses, lemma), f"{lemma} doesn't follow: {text}")
         clauses.append(lemma)
     lines = b"".join(merging.asked()).split(b"\n")[1:]
     asked = clauses_in(b"\n".join(line for line in lines if not line.startswith(b"a")))
     assumed = [int(line.split()[1]) for line in lines if line.startswith(b"a")]
     checks.check(
         all(propagates(clauses, clause) for clause in asked),
-        f"other clauses are asked about: {question.text()}",
+        f"other clauses are asked about: {text}",
     )
     found = any(solutions([*asked, [it]], question.count) for it in assumed)
     checks.check(
         found == bool(solutions([*question.clauses(), question.last], question.count)),
-        f"{found}: {question.text()}",
+        f"{found}: {text}",
     )
 
 

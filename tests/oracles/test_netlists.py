@@ -500,7 +500,7 @@ def test_netlists(place, checks):
     """aigprove compares netlists with their modules as yosys does, and in about ABC's time."""
     harness.compile_aigprove()
     times, count = Times(), MANY if strategies.is_long else FEW
-    for it in taken(place, count, 1):
+    for it in taken(place, count, strategies.seed):
         for name in ["netlist", "mutant"]:
             pair = Pair(*it, name)
             kind, is_wrong = pair.judged()

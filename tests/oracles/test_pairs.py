@@ -230,6 +230,16 @@ class Pair(Files):
                 f"a search finds a difference at step {first}, and the miter is bad at step"
                 f" {made.first_bad()}"
             )
+        self.compare_steps(first, miter)
+        if self.abc_command:
+            self.compare_abc(first)
+        self.compare_proved(first, first_unmet(*both))
+        what = "equal" if first is None else "different"
+        self.counts[" ".join([f"{what}{self.suffix}", *self.setting_words[1:]])] += 1
+        return self.counts
+
+    def compare_steps(self, first, miter):
+        """Compares which proofs aigcheck takes of the steps of a miter."""
         empty, last = self.put("empty", "0\n"), None
         for k in range(BOUND + 1 if first is None else min(first, BOUND) + 1):
             proof = self.proof(output([TOOL, "query", miter, str(k)]), f"proof-{k}")
@@ -252,18 +262,6 @@ class Pair(Files):
                     )
                 self.counts["proofs taken" if proof else "proofs refused"] += 1
             last = proof
-        if self.abc_command:
-            self.compare_abc(first)
-        self.compare_proved(first, first_unmet(*both))
-        self.counts[
-            " ".join(
-                [
-                    f"{'equal' if first is None else 'different'}{self.suffix}",
-                    *self.setting_words[1:],
-                ]
-            )
-        ] += 1
-        return self.counts
 
     def mitered(self, other):
         """The text of the miter with a file."""
@@ -296,13 +294,20 @@ class Pair(Files):
                 f"a search finds a difference at step {first}, and no run from step {unmet} on, and"
                 f" aigprove: {status} {printed} {said}"
             )
-        lines, alike = f"\n{printed}", self.said if self.has_alike() else ""
+        self.compare_answer(f"\n{printed}", first, unmet)
+        for engine in ["registers", "scorr"]:
+            self.compare_engine(engine, first)
+        self.compare_kept(keep)
+
+    def compare_answer(self, lines, first, unmet):
+        """Compares the lines of an answer."""
+        alike = self.said if self.has_alike() else ""
         behind = self.setting_behind() + alike + self.matched_behind()
         different = re.search(f"\na difference at step ([0-9]+){behind}: (.*)\n", lines)
         if (f"\nequal at every step{behind}\n" in lines) != (first is None) or (
             different is None
         ) != (first is None):
-            self.fail(f"a search finds a difference at step {first}, and aigprove: {printed}")
+            self.fail(f"a search finds a difference at step {first}, and aigprove: {lines}")
         counted = self.machine.constraints + (
             self.other_machine.constraints if self.setting != "first" else []
         )
@@ -313,21 +318,24 @@ class Pair(Files):
         ):
             self.fail(
                 f"a search finds that no run meets constraints from step {unmet} on, and aigprove:"
-                f" {printed}"
+                f" {lines}"
             )
         if different:
-            self.compare_told(different[2], lines, witness.read_text())
+            self.compare_told(different[2], lines, (self.folder / "witness").read_text())
         if different and not alike:
             self.compare_alike(int(different[1]), lines)
-        for engine in ["registers", "scorr"]:
-            status, _, said = harness.run(
-                [PROVE, *self.words, "-q", "--engine", engine, "--equal", self.other, self.file]
-            )
-            if status not in (0, 20) or status == 20 and first is not None:
-                self.fail(
-                    f"a search finds a difference at step {first}, and {engine}: {status} {said}"
-                )
-            self.counts[f"by {engine}"] += status == 20
+
+    def compare_engine(self, engine, first):
+        """Looks that an engine finds both equal only where they are."""
+        status, _, said = harness.run(
+            [PROVE, *self.words, "-q", "--engine", engine, "--equal", self.other, self.file]
+        )
+        if status not in (0, 20) or status == 20 and first is not None:
+            self.fail(f"a search finds a difference at step {first}, and {engine}: {status} {said}")
+        self.counts[f"by {engine}"] += status == 20
+
+    def compare_kept(self, keep):
+        """Looks that what is kept is shown again, and isn't with the other file turned."""
         again, kept = harness.shown_again(keep), str(keep / "other.aag")
         miter = self.mitered(kept)
         Path(kept).write_bytes(inverted(Path(kept).read_bytes()))

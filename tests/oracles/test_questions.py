@@ -141,7 +141,7 @@ class Trial(Files):
         return self
 
 
-@cases(100, 500)
+@cases(100, 1000)
 @given(rng=choices())
 def test_questions(folder: pathlib.Path, checks: Checks, rng: random.Random) -> None:
     """`aigedit question` prints the gates of the definition."""

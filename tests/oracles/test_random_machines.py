@@ -18,6 +18,7 @@ from pathlib import Path
 
 import harness
 import pytest
+import strategies
 from aiger import machine_of
 from harness import PROVE, TOOL, TOP, output
 from hypothesis import given
@@ -132,10 +133,10 @@ class Trial(Files):
         """Compares an answer, which is a run to a bad state, none at all, or nothing up to the
         bound. A run has to come where there is a first step, and be no longer by engines that look
         for the shortest."""
-        keep, written = f"{file}-{engines}", self.folder / "witness"
+        keep = f"{file}-{engines}"
         words = [
-            PROVE, "--engine", engines, *options, file, "--witness", str(written), "--bound",
-            str(BOUND), "--keep", keep,
+            PROVE, "--engine", engines, *options, file, "--witness", str(self.folder / "witness"),
+            "--bound", str(BOUND), "--keep", keep,
         ]
         status, printed, said = harness.run(words)
         printed, wanted = printed.decode(), 0
@@ -147,37 +148,16 @@ class Trial(Files):
             for line in lines
             if not line.startswith(("no bad state at step ", "no bad state up to step "))
         ] + [end]
+        shown = f"no bad state up to step {BOUND}" if engines in BY_STEPS else "nothing was shown"
+        undecided = f"undecided: {shown}"
         if first is not None or (engines == "windows" and status == 10):
-            witness = read(
-                Lines(written.read_bytes(), "WITNESS"), len(self.machine.latches),
-                len(self.machine.inputs),
-            )
-            self.compare_lines(lines, witness, names)
-            filled = list(fillings(witness))
-            if not (self.is_taken(witness) and all(map(self.machine.is_shown, filled))):
-                self.fail(f"not each filling is a witness: {witness}")
-            self.counts["fillings"] += len(filled)
-            is_later = (
-                engines in LATER and self.first is not None and len(witness.steps) > self.first
-            )
-            self.compare_witness(filled[0], len(witness.steps) - 1 == first or is_later)
-            self.counts["reached"] += 1
+            self.compare_run(lines, names, first, engines in LATER)
             wanted = 10
         elif lines[-1:] == ["no bad state at any step"] and self.first is None:
             self.counts["proved safe" if self.unmet is None else "proved empty"] += 1
             wanted = 20 if self.unmet is None else 0
             self.compare_assumed(assumed)
-        elif (
-            lines
-            == [
-                (
-                    f"undecided: no bad state up to step {BOUND}"
-                    if engines in BY_STEPS
-                    else "undecided: nothing was shown"
-                )
-            ]
-            and engines != "pdr"
-        ):
+        elif lines == [undecided] and engines != "pdr":
             self.counts["open"] += 1
         else:
             self.fail(f"aigprove: {printed}")
@@ -186,6 +166,21 @@ class Trial(Files):
         self.compare_kept(
             keep, printed, ["no bad state at", *["no bad state up to"] * (engines == "bounded")]
         )
+
+    def compare_run(self, lines, names, first, may_be_later):
+        """Compares a run that is printed with its witness, and that with a simulation."""
+        witness = read(
+            Lines((self.folder / "witness").read_bytes(), "WITNESS"), len(self.machine.latches),
+            len(self.machine.inputs),
+        )
+        self.compare_lines(lines, witness, names)
+        filled = list(fillings(witness))
+        if not (self.is_taken(witness) and all(map(self.machine.is_shown, filled))):
+            self.fail(f"not each filling is a witness: {witness}")
+        self.counts["fillings"] += len(filled)
+        is_later = may_be_later and self.first is not None and len(witness.steps) > self.first
+        self.compare_witness(filled[0], len(witness.steps) - 1 == first or is_later)
+        self.counts["reached"] += 1
 
     def compare_assumed(self, line):
         """Compares what is said of constraints with a search, where none of the machine's runs that
@@ -348,10 +343,10 @@ class Trial(Files):
 class Mangler:
     """Proofs of clauses, mangled, for steps at which a bad state is reached."""
 
-    def __init__(self, trials):
+    def __init__(self, rng, trials):
         self.trials = [trial for trial in trials if trial.first is not None]
         self.proofs = [
-            proof for trial in self.trials for proof in self.proofs_near(random.Random(1), trial)
+            proof for trial in self.trials for proof in self.proofs_near(rng, trial)
         ]
 
     def proofs_near(self, rng, trial):
@@ -408,10 +403,11 @@ def test_random_machine(folder, checks, machine):
 
 @pytest.fixture(scope="module")
 def mangler(tmp_path_factory):
-    """Proofs of the examples and of a few random machines."""
-    folder, rng = tmp_path_factory.mktemp("machines"), random.Random(1)
-    machines = [*map(example, EXAMPLES), *(deep_machine(rng) for _ in range(6))]
-    return Mangler([Trial(machine, folder) for machine in machines])
+    """Proofs of the examples and of random machines."""
+    folder, rng = tmp_path_factory.mktemp("machines"), random.Random(strategies.seed)
+    count = 300 if strategies.is_long else 6
+    machines = [*map(example, EXAMPLES), *(deep_machine(rng) for _ in range(count))]
+    return Mangler(rng, [Trial(machine, folder) for machine in machines])
 
 
 @pytest.mark.cadical

@@ -88,7 +88,7 @@ def test_design(folder, checks, name):
 
 
 @pytest.mark.cadical
-@cases(6, 20)
+@cases(6, 300)
 @given(rng=choices())
 def test_random_claim(folder, checks, rng):
     """A random witness circuit is taken where all conditions hold."""

@@ -70,53 +70,36 @@ def test_words_give_commands(room: Room) -> None:
     room.has("and.aag", "out")
 
 
+# Words that aigtool doesn't take.
+WRONG: list[list[str | bytes]] = [
+    [],
+    ["text"],
+    ["TEXT", "and.aag"],
+    ["Binary", "and.aag", "out"],
+    ["text", "and.aag", "more"],
+    [""],
+    ["binary", "and.aag"],
+    ["binary", "and.aag", "out", "more"],
+    ["text", b"\xff"],
+    [b"\xff", "and.aag"],
+    ["cnf", "and.aag"],
+    ["cnf", "and.aag", "0", "RAW"],
+    ["cnf", "and.aag", "0", "Raw"],
+    ["cnf", "and.aag", "raw"],
+    ["query"],
+    ["query", "and.aag", "0", "raw", "more"],
+    ["query", "and.aag", "raw", "12"],
+    ["query", "and.aag", "4294967296"],
+    ["strash", "and.aag", "out.aag"],
+    ["text", "and.aag", "0", "raw"],
+    ["binary", "and.aag", b"out\xff"],
+]
+# What is no number of steps.
+NO_STEPS = ["", "x", "+1", "-1", "+0", "-0", "0x", "1.0", " 1", "\u0661", "4294967296", "9" * 20]
+
+
 def test_other_words_are_wrong(room: Room) -> None:
-    wrong: list[list[str | bytes]] = [
-        [],
-        ["text"],
-        ["TEXT", "and.aag"],
-        ["Binary", "and.aag", "out"],
-        ["text", "and.aag", "more"],
-        [""],
-    ]
-    wrong += [
-        ["binary", "and.aag"],
-        ["binary", "and.aag", "out", "more"],
-        ["text", b"\xff"],
-        [b"\xff", "and.aag"],
-    ]
-    wrong += [
-        ["cnf", "and.aag", k]
-        for k in [
-            "",
-            "x",
-            "+1",
-            "-1",
-            "+0",
-            "-0",
-            "0x",
-            "1.0",
-            " 1",
-            "\u0661",
-            "4294967296",
-            "9" * 20,
-        ]
-    ]
-    wrong += [
-        ["cnf", "and.aag"],
-        ["cnf", "and.aag", "0", "RAW"],
-        ["cnf", "and.aag", "0", "Raw"],
-        ["cnf", "and.aag", "raw"],
-    ]
-    wrong += [
-        ["query"],
-        ["query", "and.aag", "0", "raw", "more"],
-        ["query", "and.aag", "raw", "12"],
-        ["query", "and.aag", "4294967296"],
-    ]
-    wrong += [["strash", "and.aag", "out.aag"], ["text", "and.aag", "0", "raw"]]
-    wrong += [["binary", "and.aag", b"out\xff"]]
-    for words in wrong:
+    for words in [*WRONG, *(["cnf", "and.aag", k] for k in NO_STEPS)]:
         room.ends(*words, status=2, err=harness.USAGE["aigtool"])
     room.has("and.aag")
 

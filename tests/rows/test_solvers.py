@@ -233,6 +233,68 @@ def within(kilobytes: int, words: list[str]) -> list[str]:
     return ["sh", "-c", f"ulimit -v {kilobytes}; exec {shlex.join(words)}"]
 
 
+# Words that are refused, and why.
+WRONG = [
+    ["--equal -- -x.aag t.aag", "argument --equal: expected one argument"],
+    ["t.aag top \x1b[2J", "unrecognized arguments: \\x1b[2J"],
+    ["--limit 2147483649 t.aag", "argument --limit: 2147483649 isn't a number of nodes"],
+    ["--limit 0 t.aag", "argument --limit: 0 isn't a number of nodes"],
+    ["--starts by-name t.aag", "--starts needs --equal"],
+    ["--constraints both t.aag", "--constraints needs --equal"],
+    [
+        "--reset 1x t.aag",
+        (
+            "argument --reset: 1x isn't SIGNAL, SIGNAL=V or SIGNAL=V:N with V 0 or"
+            " 1, such as rst_n=0:2"
+        ),
+    ],
+    [
+        "-D 1x t.aag",
+        "argument -D/--define: 1x isn't NAME or NAME=TEXT in one line, such as WIDTH=8",
+    ],
+    ["--black-box 1x t.aag", "argument --black-box: 1x isn't a name of a module"],
+    [
+        "--parameter 1x t.aag",
+        (
+            "argument --parameter: 1x isn't NAME=NUMBER, such as WIDTH=8 or"
+            " MODE=2'b10 (-D takes a text)"
+        ),
+    ],
+    [
+        "--engine no t.aag",
+        (
+            "argument --engine: unknown engine no; known engines: bmc3, pdr,"
+            " bounded, steps, windows, scorr, registers, rounds, abc"
+        ),
+    ],
+    [
+        "--justice 0 --each t.aag",
+        (
+            "--justice can't be combined with --equal, --certificate, --run, --each"
+            " or --property"
+        ),
+    ],
+    [
+        "--run t --write-certificate c t.aag",
+        (
+            "--write-certificate can't be combined with --certificate or --run: it"
+            " writes a certificate of aigprove's own answer"
+        ),
+    ],
+    ["--json j t.aag", "--json needs --each"],
+    ["--each --property 0 t.aag", "--property can't be combined with --each"],
+    ["--tasks t.aag", "--tasks needs --keep FOLDER"],
+    [
+        "--gather f --keep k t.aag",
+        "--gather can't be combined with --keep or --tasks: --keep FOLDER continues FOLDER",
+    ],
+]
+# Options whose words are names of files.
+NAMING = [
+    "--keep", "--equal", "--run", "--certificate", "--write-certificate", "--witness", "--vcd",
+]
+
+
 def worded() -> (
     Iterator[tuple[str, tuple[int | str | list[str], ...], tuple[int | str | list[str], ...]]]
 ):
@@ -250,61 +312,7 @@ def worded() -> (
             "",
             [],
         ), equal
-        for wrong, why in [
-            ["--equal -- -x.aag t.aag", "argument --equal: expected one argument"],
-            ["t.aag top \x1b[2J", "unrecognized arguments: \\x1b[2J"],
-            ["--limit 2147483649 t.aag", "argument --limit: 2147483649 isn't a number of nodes"],
-            ["--limit 0 t.aag", "argument --limit: 0 isn't a number of nodes"],
-            ["--starts by-name t.aag", "--starts needs --equal"],
-            ["--constraints both t.aag", "--constraints needs --equal"],
-            [
-                "--reset 1x t.aag",
-                (
-                    "argument --reset: 1x isn't SIGNAL, SIGNAL=V or SIGNAL=V:N with V 0 or"
-                    " 1, such as rst_n=0:2"
-                ),
-            ],
-            [
-                "-D 1x t.aag",
-                "argument -D/--define: 1x isn't NAME or NAME=TEXT in one line, such as WIDTH=8",
-            ],
-            ["--black-box 1x t.aag", "argument --black-box: 1x isn't a name of a module"],
-            [
-                "--parameter 1x t.aag",
-                (
-                    "argument --parameter: 1x isn't NAME=NUMBER, such as WIDTH=8 or"
-                    " MODE=2'b10 (-D takes a text)"
-                ),
-            ],
-            [
-                "--engine no t.aag",
-                (
-                    "argument --engine: unknown engine no; known engines: bmc3, pdr,"
-                    " bounded, steps, windows, scorr, registers, rounds, abc"
-                ),
-            ],
-            [
-                "--justice 0 --each t.aag",
-                (
-                    "--justice can't be combined with --equal, --certificate, --run, --each"
-                    " or --property"
-                ),
-            ],
-            [
-                "--run t --write-certificate c t.aag",
-                (
-                    "--write-certificate can't be combined with --certificate or --run: it"
-                    " writes a certificate of aigprove's own answer"
-                ),
-            ],
-            ["--json j t.aag", "--json needs --each"],
-            ["--each --property 0 t.aag", "--property can't be combined with --each"],
-            ["--tasks t.aag", "--tasks needs --keep FOLDER"],
-            [
-                "--gather f --keep k t.aag",
-                "--gather can't be combined with --keep or --tasks: --keep FOLDER continues FOLDER",
-            ],
-        ]:
+        for wrong, why in WRONG:
             status, out, said, left = run.result(wrong.split(" "), words)
             yield wrong, (2, "", [f"aigprove: error: {why}"], []), (
                 status,
@@ -312,15 +320,7 @@ def worded() -> (
                 said.splitlines()[-1:],
                 left,
             )
-        for option in [
-            "--keep",
-            "--equal",
-            "--run",
-            "--certificate",
-            "--write-certificate",
-            "--witness",
-            "--vcd",
-        ]:
+        for option in NAMING:
             status, _, said, _ = run.result([option, ""])
             yield option, (
                 2,
@@ -384,6 +384,10 @@ def kept() -> Iterator[Any]:
         yield "shown again", (0, SAFE, "", []), run.result(["--", f"{folder}/check.sh"], ["sh"])
 
 
+# Words that a shell would take for patterns and commands.
+COMMANDS = ["*", "$(touch $FOLDER/made)", "; touch $FOLDER/made", "`touch $FOLDER/made`"]
+
+
 def strange() -> Iterator[Any]:
     """What somebody else wrote in evidence.json: words are no commands and no patterns, and names
     lead to no other folder."""
@@ -393,26 +397,13 @@ def strange() -> Iterator[Any]:
         script, path = (run.folder / "kept" / name for name in ["check.sh", "evidence.json"])
         yield "one script", (TOP / "lib/aigprove/output/check.py").read_bytes(), script.read_bytes()
         good = json.loads(path.read_text())
-        first = {
-            **good["steps"][0],
-            "by": [
-                "certified",
-                "*",
-                "$(touch $FOLDER/made)",
-                "; touch $FOLDER/made",
-                "`touch $FOLDER/made`",
-            ],
-        }
+        first = {**good["steps"][0], "by": ["certified", *COMMANDS]}
+        odd = {**good["steps"][0], "shows": "no bad state\x1b[2J"}
         sums = {name: "0" * 64 for name in good["files"]}
         for change, status, printed, why in [
             ({}, 0, SAFE, ""),
             ({"steps": [first]}, 1, "", "not shown: no bad state at any step\n"),
-            (
-                {"steps": [{**good["steps"][0], "shows": "no bad state\x1b[2J"}]},
-                1,
-                "",
-                "not shown: no bad state\\x1b[2J\n",
-            ),
+            ({"steps": [odd]}, 1, "", "not shown: no bad state\\x1b[2J\n"),
             ({"files": sums}, 1, "", f"not shown: {list(sums)[0]} is another file\n"),
             ({"parts": [".."]}, 1, "", "not shown: .. is no folder in this one\n"),
             ({"parts": ["a/../.."]}, 1, "", "not shown: a/../.. is no folder in this one\n"),

@@ -28,45 +28,61 @@ import pytest
 
 PACKAGE = harness.TOP / "lib" / "aigprove"
 LISTED = harness.TESTS / "mutants.tsv"
-# By the module: its unit tests, as functions of test modules.
-PARTS = [("test_netlist_units", "test_texts"), ("test_netlist_units", "test_hierarchy"), *(
-    ("test_netlist_units", f"test_{name}") for name in ["netlists", "names", "stored"])]
-TEXTS = [("test_netlist_units", "test_verilog"), ("test_netlist_units", "test_texts")]
+# By the module: its unit tests, as functions of test modules, or as all tests of one.
+NETLISTS = [("test_netlist_units", "")]
 REWRITING = [("test_rewriting_units", "test_texts")]
-NAMES = [("test_design_units", f"test_{name}") for name in [
-    "trees", "shapes", "module_units", "hierarchies", "declared", "unknown", "checked"]]
-YOSYS = [
-    ("test_design_units", f"test_{name}")
-    for name in ["copies", "many", "files_of", "told", "runs", "full", "reads", "front_ends"]
-]
-READING = [("test_design_units", f"test_{name}") for name in [
-    "one_reading", "refusals", "rewriting", "opening", "tops", "features", "resets", "looking_up"]]
-DESIGNS = [
-    ("test_design_units", f"test_{name}")
-    for name in ["made_files", "sizes", "bad_designs", "loops", "without_abc", "replays"]
-]
-CHECKER = [
-    ("test_checker_units", f"test_{name}")
-    for name in ["refusals", "words", "runs", "kept", "printed", "claims", "statements"]
-]
+
+
+def of_designs(names):
+    """Unit tests of designs, by the words behind `test_`."""
+    return [("test_design_units", f"test_{name}") for name in names.split()]
+
+
+NAMES = of_designs("""
+    trees nodes nets_of_trees shapes module_units driven hierarchies signals odd_paths
+    is_declared interfaces declared declared_unused not_declared declared_several unknown
+    checked not_as_declared declared_again
+""")
+YOSYS = of_designs("""
+    copies links many files_of told runs late_runs full reads reads_late front_ends
+""")
+READING = of_designs("""
+    one_reading reading_options reading_files refusals late_reading rewriting rewritten_again
+    not_rewritten opening tops tops_by_options better_top asked_below parameters features freed
+    resets resets_of_clocks looking_up looking_up_faults looking_up_bound looking_up_misread
+""")
+DESIGNS = of_designs("""
+    made_files ordered_files made_with_reset made_kinds maps free_values sizes failing
+    bad_designs no_clock odd_tops loops without_abc replays replays_of_clocks spelled
+""")
+CHECKER = [("test_checker_units", "")]
 UNITS = {
     "designs/rtlil.py": [
         ("test_rtlil", "test_line"),
         ("test_rtlil", "test_signals"),
+        ("test_rtlil", "test_spelled"),
+        ("test_rtlil", "test_constant"),
         ("test_rtlil", "test_refused"),
         ("test_rtlil", "test_process"),
-        PARTS[0],
+        *NETLISTS,
     ],
-    "designs/modules.py": [*PARTS, ("test_rewriting_units", "test_generated")],
-    "designs/netlist.py": PARTS,
-    "designs/registers.py": PARTS[:1],
-    "designs/ordering.py": [("test_netlist_units", "test_orders")],
+    "designs/modules.py": [
+        *NETLISTS,
+        ("test_rewriting_units", "test_generated"),
+        ("test_rewriting_units", "test_alike"),
+    ],
+    "designs/netlist.py": NETLISTS,
+    "designs/registers.py": NETLISTS,
+    "designs/ordering.py": NETLISTS,
     "designs/statements.py": [("test_rewriting_units", "test_statements"), *REWRITING],
     "designs/properties.py": [("test_rewriting_units", "test_written_properties"), *REWRITING],
     "designs/rewriting.py": REWRITING,
-    "designs/sensitivity.py": [("test_rewriting_units", "test_lists")],
+    "designs/sensitivity.py": [
+        ("test_rewriting_units", "test_lists"),
+        ("test_rewriting_units", "test_lists_of_modules"),
+    ],
     "designs/labels.py": [("test_rewriting_units", "test_generated")],
-    "designs/texts.py": [*TEXTS, *REWRITING],
+    "designs/texts.py": [*NETLISTS, *REWRITING],
     "designs/names.py": NAMES,
     "designs/yosys.py": YOSYS,
     "designs/reading.py": READING,
@@ -75,7 +91,7 @@ UNITS = {
     "designs/scripts.py": [*READING, *DESIGNS],
     "questions/checker.py": CHECKER,
     "output/check.py": CHECKER,
-    "equality/program.py": [("test_checker_units", "test_program")],
+    "equality/program.py": CHECKER,
 }
 # How many seconds, and of processor time, the unit tests have with a change.
 SECONDS, USED = 60, 6
@@ -180,7 +196,10 @@ class Finder(importlib.abc.MetaPathFinder, importlib.abc.Loader):
 
 def run_units(units):
     """Whether all unit tests pass, which pytest runs in this process."""
-    paths = [f"{harness.TESTS}/unit/{module}.py::{function}" for module, function in units]
+    paths = [
+        f"{harness.TESTS}/unit/{module}.py" + (f"::{function}" if function else "")
+        for module, function in units
+    ]
     return pytest.main(["-q", "-x", "-p", "no:cacheprovider", "-p", "no:xdist", *paths]) == 0
 
 
@@ -206,7 +225,10 @@ def judge(module, share, shares):
     """The mutants of a module that stay, of every so many one, and how many there are."""
     path, found, count = PACKAGE / module, [], 0
     name = "aigprove." + module[:-3].replace("/", ".")
-    for i, (line, what, made) in enumerate(mutants(path.read_text(encoding="utf-8"))):
+    text = path.read_text(encoding="utf-8")
+    if not stays(name, ast.parse(text), UNITS[module]):
+        raise AssertionError(f"the unit tests of {module} fail without a change")
+    for i, (line, what, made) in enumerate(mutants(text)):
         if i % shares == share:
             count += 1
             if stays(name, made, UNITS[module]):

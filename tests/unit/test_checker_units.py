@@ -105,102 +105,142 @@ def test_refusals(checks: Checks, four_jobs: Scheduler, folder: pathlib.Path) ->
         )
 
 
-def test_words(checks: Checks, four_jobs: Scheduler, folder: pathlib.Path) -> None:
-    """The words that our programs get, and what is taken of them."""
-    file = Sealed(b"aag 1 0 1 0 0 1\n2 2\n2\n")
-    echo = 'echo "$@" | sed "s#/dev/fd/[0-9]*#F#g"'
-    for limit, before, text, clauses in [
-        (None, "", "text", "query"),
-        (9, "--limit 9 ", "--limit 9 reencode", "--limit 9 clauses"),
+# A file, and a script that prints its words, where F is a file that it is given.
+FILE = Sealed(b"aag 1 0 1 0 0 1\n2 2\n2\n")
+ECHO = 'echo "$@" | sed "s#/dev/fd/[0-9]*#F#g"'
+
+
+def printed_question(
+    folder: pathlib.Path, checker: Checker, question: Question, subject: Subject
+) -> str:
+    """What a checker prints of a question."""
+    with open(folder / "out", "w+b") as out:
+        checker.print_question(question, subject, out)
+        out.seek(0)
+        return out.read().decode()
+
+
+@pytest.mark.parametrize(
+    "limit, before, text, clauses",
+    [(None, "", "text", "query"), (9, "--limit 9 ", "--limit 9 reencode", "--limit 9 clauses")],
+)
+def test_words(
+    checks: Checks,
+    four_jobs: Scheduler,
+    folder: pathlib.Path,
+    limit: int | None,
+    before: str,
+    text: str,
+    clauses: str,
+) -> None:
+    """The words that our programs get."""
+    checker = programs(folder, four_jobs, ECHO, limit)
+    checks.wants("text", f"{text} F\n".encode(), checker.text(FILE).data())
+    live = checker.transformed("live", FILE, 3)
+    checks.wants("transformed", f"{before}live F 3\n".encode(), live.data())
+    for question, wanted in [
+        (Question("query", 2), f"{clauses} F 2\n"),
+        (Question("bounded", 2), f"{before}bounded F 2\n"),
+        (Question("window", 0, ("distinct",)), f"{before}window F 0 distinct\n"),
     ]:
-        checker = programs(folder, four_jobs, echo, limit)
-        checks.wants("text", f"{text} F\n".encode(), checker.text(file).data())
-        live = checker.transformed("live", file, 3)
-        checks.wants("transformed", f"{before}live F 3\n".encode(), live.data())
-        for question, wanted in [
-            (Question("query", 2), f"{clauses} F 2\n"),
-            (Question("bounded", 2), f"{before}bounded F 2\n"),
-            (Question("window", 0, ("distinct",)), f"{before}window F 0 distinct\n"),
-        ]:
-            with open(folder / "out", "w+b") as out:
-                checker.print_question(question, Subject(file), out)
-                out.seek(0)
-                checks.wants(question, wanted, out.read().decode())
-        chosen = Subject(file, ["--property", "3"], ["property", "3"])
-        for question, wanted in [
-            (Question("query", 2), "clauses F 2"),
-            (Question("window", 0, ("raw",)), "window F 0 raw"),
-        ]:
-            with open(folder / "out", "w+b") as out:
-                checker.print_question(question, chosen, out)
-                out.seek(0)
-                checks.wants(question, f"{before}--property 3 {wanted}\n", out.read().decode())
-        checks.wants(
-            "a machine", f"{before}property F 3\n".encode(), checker.machine(chosen).data()
-        )
-        checks.check(checker.machine(Subject(file)) is file, "FILE isn't its own machine")
-        checks.wants(
-            "a witness",
-            f"{before}witness F 4 F\n".encode(),
-            checker.witness(Subject(file), Question("query", 4), file),
-        )
-        checks.wants(
-            "a witness up to",
-            f"{before}--property 3 witness F to 4 F\n".encode(),
-            checker.witness(chosen, Question("bounded", 4), file),
-        )
-        checks.wants(
-            "a joint file", f"{before}join F F\n".encode(), checker.joint(file, file, False).data()
-        )
+        given = printed_question(folder, checker, question, Subject(FILE))
+        checks.wants(question, wanted, given)
+    checks.check(checker.machine(Subject(FILE)) is FILE, "FILE isn't its own machine")
+    checks.wants(
+        "a witness",
+        f"{before}witness F 4 F\n".encode(),
+        checker.witness(Subject(FILE), Question("query", 4), FILE),
+    )
+    checks.wants(
+        "a joint file", f"{before}join F F\n".encode(), checker.joint(FILE, FILE, False).data()
+    )
+
+
+@pytest.mark.parametrize("limit, before", [(None, ""), (9, "--limit 9 ")])
+def test_words_of_a_subject(
+    checks: Checks,
+    four_jobs: Scheduler,
+    folder: pathlib.Path,
+    limit: int | None,
+    before: str,
+) -> None:
+    """The words that our programs get of one property."""
+    checker = programs(folder, four_jobs, ECHO, limit)
+    chosen = Subject(FILE, ["--property", "3"], ["property", "3"])
+    for question, wanted in [
+        (Question("query", 2), "clauses F 2"),
+        (Question("window", 0, ("raw",)), "window F 0 raw"),
+    ]:
+        given = printed_question(folder, checker, question, chosen)
+        checks.wants(question, f"{before}--property 3 {wanted}\n", given)
+    checks.wants("a machine", f"{before}property F 3\n".encode(), checker.machine(chosen).data())
+    checks.wants(
+        "a witness up to",
+        f"{before}--property 3 witness F to 4 F\n".encode(),
+        checker.witness(chosen, Question("bounded", 4), FILE),
+    )
+
+
+def test_joint(checks: Checks, four_jobs: Scheduler, folder: pathlib.Path) -> None:
+    """When there is no joint file, and when that is a fault."""
     failing = programs(
         folder, four_jobs, "echo 'aigedit: files do not fit: 1 and 2 inputs' >&2; exit 1"
     )
     checks.wants(
         "no joint file",
         (None, "!aigedit: files do not fit: 1 and 2 inputs"),
-        (failing.joint(file, file, False), called(failing.joint, file, file, True)),
+        (failing.joint(FILE, FILE, False), called(failing.joint, FILE, FILE, True)),
     )
     failing = programs(
         folder, four_jobs, "echo 'aigedit: other file: bad literal in latches' >&2; exit 1"
     )
-    checks.wants("no resets", None, failing.joint(file, file, False))
+    checks.wants("no resets", None, failing.joint(FILE, FILE, False))
     failing = programs(folder, four_jobs, "echo 'aigedit: out of memory' >&2; exit 1")
-    checks.wants("no memory", "!aigedit: out of memory", called(failing.joint, file, file, False))
-    checks.wants("proofs", (b"0\n", b""), (failing.empty_clause.data(), failing.nothing.data()))
-    checks.wants("limits", (LIMIT, 9), (failing.limit, programs(folder, four_jobs, echo, 9).limit))
+    checks.wants("no memory", "!aigedit: out of memory", called(failing.joint, FILE, FILE, False))
+
+
+def test_facts(checks: Checks, four_jobs: Scheduler, folder: pathlib.Path) -> None:
+    """What a checker knows of itself, of a file and of questions."""
+    echo = programs(folder, four_jobs, ECHO)
+    checks.wants("proofs", (b"0\n", b""), (echo.empty_clause.data(), echo.nothing.data()))
+    checks.wants("limits", (LIMIT, 9), (echo.limit, programs(folder, four_jobs, ECHO, 9).limit))
     checks.wants(
         "a header",
         (2, "!bad header line in FILE"),
         (header_of(Sealed(b"aag 3 2 1 0 0\n")).inputs, called(header_of, Sealed(b"no\n"))),
-    )
-    question = programs(folder, four_jobs, "[ $1 = run ] && echo 'from step 2 to 5?'")
-    checks.wants(
-        "a lasso's line", ("from step 2 to 5?", (2, 5)), question.lasso(Subject(file), file)
-    )
-    half = programs(folder, four_jobs, "echo 'from step 2 to '")
-    checks.wants(
-        "half a lasso",
-        "!aigcheck printed 'from step 2 to '",
-        called(half.lasso, Subject(file), file),
-    )
-    lasso = programs(folder, four_jobs, "echo 'j0: from step 2 to 5'")
-    checks.wants("a lasso", ("j0: from step 2 to 5", (2, 5)), lasso.lasso(Subject(file), file))
-    lasso = programs(folder, four_jobs, "[ $1 = --endless ] && echo 'from step 2 to 2'")
-    checks.wants(
-        "a lasso of a subject",
-        ("from step 2 to 2", (2, 2)),
-        lasso.lasso(Subject(file, ["--endless"]), file),
-    )
-    checks.wants(
-        "no lasso",
-        "!aigcheck printed 'b0 at step 2'",
-        called(programs(folder, four_jobs, "echo 'b0 at step 2'").lasso, Subject(file), file),
     )
     names = [
         Question(command, 3, form).name
         for command, form in [("query", ()), ("bounded", ()), ("window", ("distinct",))]
     ]
     checks.wants("names", ["step-3", "steps-3", "window-3-distinct"], names)
+
+
+def test_lasso(checks: Checks, four_jobs: Scheduler, folder: pathlib.Path) -> None:
+    """What is taken of a line about a lasso."""
+    question = programs(folder, four_jobs, "[ $1 = run ] && echo 'from step 2 to 5?'")
+    checks.wants(
+        "a lasso's line", ("from step 2 to 5?", (2, 5)), question.lasso(Subject(FILE), FILE)
+    )
+    half = programs(folder, four_jobs, "echo 'from step 2 to '")
+    checks.wants(
+        "half a lasso",
+        "!aigcheck printed 'from step 2 to '",
+        called(half.lasso, Subject(FILE), FILE),
+    )
+    lasso = programs(folder, four_jobs, "echo 'j0: from step 2 to 5'")
+    checks.wants("a lasso", ("j0: from step 2 to 5", (2, 5)), lasso.lasso(Subject(FILE), FILE))
+    lasso = programs(folder, four_jobs, "[ $1 = --endless ] && echo 'from step 2 to 2'")
+    checks.wants(
+        "a lasso of a subject",
+        ("from step 2 to 2", (2, 2)),
+        lasso.lasso(Subject(FILE, ["--endless"]), FILE),
+    )
+    checks.wants(
+        "no lasso",
+        "!aigcheck printed 'b0 at step 2'",
+        called(programs(folder, four_jobs, "echo 'b0 at step 2'").lasso, Subject(FILE), FILE),
+    )
 
 
 def test_claims(checks: Checks) -> None:
@@ -241,9 +281,13 @@ def test_claims(checks: Checks) -> None:
             others and all(claim.files[it] is proof for it in others), f"{line} has other files"
         )
     checks.wants("up to", "no bad state up to step 7", file.up_to(7))
-    file.subject, file.lines = Subject(file.subject.file, ["--justice", "2"]), statements_about(
-        "j", 2
-    )
+
+
+def test_claims_of_justice(checks: Checks) -> None:
+    """What is claimed of a justice property."""
+    file, proof = File(b"aag 0 0 0 0 0\n"), Sealed(b"0\n")
+    file.subject = Subject(file.subject.file, ["--justice", "2"])
+    file.lines = statements_about("j", 2)
     for claim, line, asked in [
         (
             file.unsolvable(Question("query", 2), proof),
@@ -300,15 +344,19 @@ def test_statements(checks: Checks) -> None:
     checks.wants("of all", 7, Statements().last_step("query", "no bad state at step 7"))
 
 
-def test_kept(
-    checks: Checks, four_jobs: Scheduler, folder: pathlib.Path, monkeypatch: pytest.MonkeyPatch
-) -> None:
-    """What is kept, and shown again by the script that goes with it."""
-    checker = programs(
+@pytest.fixture
+def checker(four_jobs: Scheduler, folder: pathlib.Path) -> Checker:
+    """A checker whose programs say that all is safe."""
+    return programs(
         folder,
         four_jobs,
         f"case $1 in --version) echo 'program 1';; bads) echo made;; *) echo '{SAFE}';; esac",
     )
+
+
+@pytest.fixture
+def evidence(checker: Checker, folder: pathlib.Path) -> EvidenceFolder:
+    """A folder with evidence, and a part of it."""
     evidence = EvidenceFolder(str(folder / "kept"), checker, None)
     evidence.makes("bads.aag", Sealed(b"made\n"), "bads", "file.aag")
     evidence.shows(
@@ -319,10 +367,22 @@ def test_kept(
     part.note("pdr", 1.26)
     part.end()
     evidence.end()
-    given = json.loads((folder / "kept/evidence.json").read_text())
+    return evidence
+
+
+def read(folder: pathlib.Path, name: str) -> Any:
+    """What is kept in a folder."""
+    return json.loads((folder / name / "evidence.json").read_text())
+
+
+def test_kept(
+    checks: Checks, checker: Checker, evidence: EvidenceFolder, folder: pathlib.Path
+) -> None:
+    """What is kept."""
+    given = read(folder, "kept")
     checks.wants("files", {"bads.aag", "p"}, set(given["files"]))
     checks.wants("versions", "program 1", given["versions"]["aigcheck"])
-    inner = json.loads((folder / "kept/one/evidence.json").read_text())
+    inner = read(folder, "kept/one")
     checks.wants(
         "a part",
         ("pdr", 1.3, 9, ["one"]),
@@ -345,6 +405,14 @@ def test_kept(
             )
         ),
     )
+
+
+@pytest.mark.usefixtures("evidence")
+def test_shown_again(
+    checks: Checks, checker: Checker, folder: pathlib.Path, monkeypatch: pytest.MonkeyPatch
+) -> None:
+    """What is kept is shown again by the script that goes with it, and what was changed isn't."""
+    given = read(folder, "kept")
     for name in "AIGCHECK", "AIGEDIT":
         monkeypatch.setenv(name, checker.aigcheck[0])
     checks.wants("shown again", [SAFE, SAFE], check.check(str(folder / "kept")))
@@ -370,6 +438,10 @@ def test_kept(
     }
     (folder / "kept/evidence.json").write_text(json.dumps(limited))
     checks.wants("words", ["--limit 7 a * $b"], check.check(str(folder / "kept")))
+
+
+def test_escaped(checks: Checks) -> None:
+    """Texts as they are printed."""
     checks.wants(
         "texts",
         ("a\\x1b[2J\\n", "\\x1b\nb", "x: y"),
@@ -381,9 +453,46 @@ def test_kept(
     )
 
 
-def test_printed(checks: Checks, folder: pathlib.Path, monkeypatch: pytest.MonkeyPatch) -> None:
-    """What the script prints, says and ends with, as the words of a step and the program that shows
-    it are."""
+# What is changed in evidence that has nothing, and what the script ends with, prints and says.
+PRINTED: list[tuple[dict[str, Any], tuple[int, bytes, str]]] = [
+    ({}, (0, b"", "")),
+    (
+        {"steps": [{"shows": "aigcheck run f", "by": ["run", "f"]}]},
+        (0, b"aigcheck run f\n", ""),
+    ),
+    (
+        {"steps": [{"shows": "aigedit run f", "by": ["run", "f"]}]},
+        (1, b"", "not shown: aigedit run f\n"),
+    ),
+    ({"steps": [{"makes": "made", "by": ["bads", "f"]}]}, (0, b"", "")),
+    ({"steps": [{"makes": "made", "by": ["bads", "g"]}]}, (1, b"", "not shown: made\n")),
+    ({"table": ["a\x1b[2J\n", "\xe4"]}, (0, "a\\x1b[2J\\n\n\xe4\n".encode(), "")),
+    ({"steps": [{"says": "a"}]}, (1, b"", "not shown: 'by'\n")),
+    ({"files": {"made": "0"}}, (1, b"", "not shown: made is another file\n")),
+    ({"files": {"made": hashlib.sha256(b"aigedit bads f\n").hexdigest()}}, (0, b"", "")),
+    ({"parts": [".."]}, (1, b"", "not shown: .. is no folder in this one\n")),
+    ({"parts": ["a/b"]}, (1, b"", "not shown: a/b is no folder in this one\n")),
+    ({"steps": [{"by": ["bads", "f"]}]}, (1, b"", "not shown: 'makes'\n")),
+    (
+        {"table": ["one", "two"], "steps": [{"shows": "aigcheck run f", "by": ["run", "f"]}]},
+        (0, b"aigcheck run f\none\ntwo\n", ""),
+    ),
+    (
+        {"table": ["one"], "steps": [{"shows": "aigcheck run g", "by": ["run", "f"]}]},
+        (1, b"", "not shown: aigcheck run g\n"),
+    ),
+    ({"vacuous": None}, (0, b"", "")),
+    (
+        {"vacuous": "empty\x1b", "steps": [{"shows": "aigcheck run f", "by": ["run", "f"]}]},
+        (0, b"aigcheck run f\nempty\\x1b\n", ""),
+    ),
+    ({"vacuous": "two", "table": ["one", "two"]}, (0, b"one\ntwo\n", "")),
+]
+
+
+@pytest.fixture
+def shown(folder: pathlib.Path, monkeypatch: pytest.MonkeyPatch) -> Callable[..., Any]:
+    """What the script does with evidence that has nothing but this, and a file."""
     place = folder / "kept"
     place.mkdir()
     for name in "aigcheck", "aigedit":
@@ -393,49 +502,28 @@ def test_printed(checks: Checks, folder: pathlib.Path, monkeypatch: pytest.Monke
         monkeypatch.setenv(name.upper(), str(path))
     (place / "made").write_text("aigedit bads f\n")
     good: dict[str, Any] = {"limit": None, "files": {}, "steps": [], "parts": [], "table": None}
-    for change, wanted in [
-        ({}, (0, b"", "")),
-        (
-            {"steps": [{"shows": "aigcheck run f", "by": ["run", "f"]}]},
-            (0, b"aigcheck run f\n", ""),
-        ),
-        (
-            {"steps": [{"shows": "aigedit run f", "by": ["run", "f"]}]},
-            (1, b"", "not shown: aigedit run f\n"),
-        ),
-        ({"steps": [{"makes": "made", "by": ["bads", "f"]}]}, (0, b"", "")),
-        ({"steps": [{"makes": "made", "by": ["bads", "g"]}]}, (1, b"", "not shown: made\n")),
-        ({"table": ["a\x1b[2J\n", "\xe4"]}, (0, "a\\x1b[2J\\n\n\xe4\n".encode(), "")),
-        ({"steps": [{"says": "a"}]}, (1, b"", "not shown: 'by'\n")),
-        ({"files": {"made": "0"}}, (1, b"", "not shown: made is another file\n")),
-        ({"files": {"made": hashlib.sha256(b"aigedit bads f\n").hexdigest()}}, (0, b"", "")),
-        ({"parts": [".."]}, (1, b"", "not shown: .. is no folder in this one\n")),
-        ({"parts": ["a/b"]}, (1, b"", "not shown: a/b is no folder in this one\n")),
-        ({"steps": [{"by": ["bads", "f"]}]}, (1, b"", "not shown: 'makes'\n")),
-        (
-            {"table": ["one", "two"], "steps": [{"shows": "aigcheck run f", "by": ["run", "f"]}]},
-            (0, b"aigcheck run f\none\ntwo\n", ""),
-        ),
-        (
-            {"table": ["one"], "steps": [{"shows": "aigcheck run g", "by": ["run", "f"]}]},
-            (1, b"", "not shown: aigcheck run g\n"),
-        ),
-        ({"vacuous": None}, (0, b"", "")),
-        (
-            {"vacuous": "empty\x1b", "steps": [{"shows": "aigcheck run f", "by": ["run", "f"]}]},
-            (0, b"aigcheck run f\nempty\\x1b\n", ""),
-        ),
-        ({"vacuous": "two", "table": ["one", "two"]}, (0, b"one\ntwo\n", "")),
-    ]:
+
+    def shown(change: dict[str, Any]) -> tuple[int, bytes, str]:
         (place / "evidence.json").write_text(json.dumps({**good, **change}))
-        checks.wants(change, wanted, said_by(place, monkeypatch))
+        return said_by(place, monkeypatch)
+
+    return shown
+
+
+@pytest.mark.parametrize("change, wanted", PRINTED)
+def test_printed(checks: Checks, shown: Callable[..., Any], change: Any, wanted: Any) -> None:
+    """What the script prints, says and ends with, as the words of a step and the program that shows
+    it are."""
+    checks.wants(change, wanted, shown(change))
+
+
+def test_printed_without_program(
+    checks: Checks, shown: Callable[..., Any], monkeypatch: pytest.MonkeyPatch
+) -> None:
+    """The script says that a program isn't there."""
     monkeypatch.setenv("AIGCHECK", "./nowhere")
-    (place / "evidence.json").write_text(
-        json.dumps({**good, "steps": [{"shows": "b", "by": ["c"]}]})
-    )
-    checks.wants(
-        "no program", (1, b"", "not shown: ./nowhere is not there\n"), said_by(place, monkeypatch)
-    )
+    given = shown({"steps": [{"shows": "b", "by": ["c"]}]})
+    checks.wants("no program", (1, b"", "not shown: ./nowhere is not there\n"), given)
 
 
 def said_by(folder: pathlib.Path, monkeypatch: pytest.MonkeyPatch) -> tuple[int, bytes, str]:

@@ -220,6 +220,10 @@ def test_trees(checks: Checks) -> None:
     checks.wants("another module", [Use("t.v:31", True, False)], made.uses["other", "\\late"])
     checks.wants("selected", {("top", "\\bit")}, made.selected)
     checks.wants("arrays", {("top", "r"), ("other", "v")}, made.arrays)
+
+
+def test_nodes(checks: Checks) -> None:
+    """The nodes of a syntax tree, each with those above it."""
     given = list(nodes(printed("  MODULE@3 \\m\n    WIRE@4 \\w\n    CONSTANT@5 bits=01xz\n")))
     checks.wants(
         "nodes",
@@ -238,6 +242,11 @@ def test_trees(checks: Checks) -> None:
         "no module", [("t.v:9", False, False)],
         [tuple(it) for it in Trees(printed("  IDENTIFIER@9 \\w\n")).uses[None, "\\w"]],
     )
+
+
+def test_nets_of_trees(checks: Checks) -> None:
+    """Which names in a syntax tree may be nets."""
+    made = Trees(printed(TREE))
     for name, why in [
         ("\\p", None),
         ("\\g", None),
@@ -327,7 +336,10 @@ def test_module_units(checks: Checks) -> None:
     checks.wants(
         "outputs", [False, True, True], [sub.is_output(port) for port in ["\\i", "\\o", "\\q"]]
     )
-    text = """module \\m
+
+
+# A module that drives nets in each way.
+DRIVING = """module \\m
   wire \\a
   wire $own
   process $p
@@ -355,8 +367,12 @@ def test_module_units(checks: Checks) -> None:
   connect \\l \\r
 end
 """
+
+
+def test_driven(checks: Checks) -> None:
+    """What a module drives."""
     drivers = [(kind, f"\\{kind.lower()}") for kind in "X CO LO O DATA RD_DATA".split()]
-    text = text.replace(
+    text = DRIVING.replace(
         "  connect \\l",
         "".join(
             f"  cell $c $c{port}\n    connect \\{port} {name}\n  end\n" for port, name in drivers
@@ -372,12 +388,17 @@ end
     checks.wants("its own", {"\\a"}, set(made["\\m"].nets))
 
 
-def test_hierarchies(checks: Checks) -> None:
-    """What paths down from a module are."""
-    made = Hierarchy(
+def a_hierarchy() -> Hierarchy:
+    """The hierarchy of a design with an implicit net and a path."""
+    return Hierarchy(
         top("p", "s.n", "made", cells="  cell \\sub \\x.s\n  end\n"), Trees(printed(TREE)),
         places("s.n", "p"),
     )
+
+
+def test_hierarchies(checks: Checks) -> None:
+    """What paths down from a module are."""
+    made = a_hierarchy()
     for path, wanted in [
         ("s.n", [("\\sub", "\\n")]),
         ("s.inner.deep", [("\\low", "\\deep")]),
@@ -393,6 +414,11 @@ def test_hierarchies(checks: Checks) -> None:
         checks.wants(path, wanted, list(made.found("\\top", path)))
     checks.wants("no module", [], list(made.found("\\none", "p")))
     checks.wants("implicit", ["\\p", "\\s.n"], [net.name for net in made.implicit("\\top")])
+
+
+def test_signals(checks: Checks) -> None:
+    """What a path is as a net, and which paths aren't read."""
+    made = a_hierarchy()
     for path, wanted in [("s.n", "signed [4:1] "), ("s.u", "[1:4] "), ("s.inner.deep", "[0:0] ")]:
         checks.wants(path, wanted, str(made.signal("\\top", path)))
     below = (
@@ -411,6 +437,10 @@ def test_hierarchies(checks: Checks) -> None:
         ("t[0].n", None),
     ]:
         checks.wants(path, why, refused(made.signal, "\\top", path))
+
+
+def test_odd_paths(checks: Checks) -> None:
+    """A path to two signals, and into arrays of instances."""
     twice = Hierarchy(top(cells="  cell \\low \\s.inner\n  end\n"), Trees(""), set())
     checks.wants("twice", "it may be 2 signals", refused(twice.signal, "\\top", "s.inner.deep"))
     arrays = Hierarchy(
@@ -428,6 +458,11 @@ def test_hierarchies(checks: Checks) -> None:
         ("s.n", None),
     ]:
         checks.wants(path, wanted, refused(arrays.signal, "\\top", path))
+
+
+def test_is_declared(checks: Checks) -> None:
+    """Which nets a design declares."""
+    made = a_hierarchy()
     for attribute, is_declared in [
         ("", True),
         ("  attribute \\hierconn 1\n", False),
@@ -446,6 +481,10 @@ def test_hierarchies(checks: Checks) -> None:
     checks.wants(
         "a name with a point", True, elsewhere.is_declared(elsewhere.modules["\\top"].nets["\\s.n"])
     )
+
+
+def test_interfaces(checks: Checks) -> None:
+    """Which nets are of an interface."""
     text = "attribute \\is_interface 1\nmodule \\bus\n  wire \\v\nend\n"
     whole = top(
         "b.v", "c.v", "s.v", "w.v",
@@ -520,6 +559,10 @@ def test_declared(checks: Checks) -> None:
         "an instance of that name", {"\\top.n": "(* hierconn *) wire signed [4:1] "},
         both.declared["top"],
     )
+
+
+def test_declared_unused(checks: Checks) -> None:
+    """What is declared for names that nothing uses, and with interfaces."""
     unused = found_names(top("p"), "p", "q", "s.n", every=top("p", "q", "s.n"))
     checks.wants(
         "what isn't used",
@@ -538,46 +581,59 @@ def test_declared(checks: Checks) -> None:
         "an interface", (DECLARED_LATER, {"\\q": "(* aigprove_unknown *) wire "}),
         (of_interface.way, of_interface.declared["top"]),
     )
-    faults = [
-        (("index",), VERILOG, "my.v:14: index isn't declared: declare it, or correct its spelling"),
+
+
+# Names, the text in which they are, and why they are refused.
+NOT_DECLARED = [
+    (("index",), VERILOG, "my.v:14: index isn't declared: declare it, or correct its spelling"),
+    (
+        ("$f",),
+        VERILOG,
         (
-            ("$f",),
-            VERILOG,
-            (
-                "my.v:14: $f isn't declared: yosys has no such system function; a net without a"
-                " driver has any value in each step"
-            ),
+            "my.v:14: $f isn't declared: yosys has no such system function; a net without a"
+            " driver has any value in each step"
         ),
+    ),
+    (
+        ("p",),
+        VERILOG.replace(b"module sub", b"`default_nettype none\nmodule sub"),
+        "my.v:14: p isn't declared: `default_nettype none forbids implicit nets",
+    ),
+    (
+        ("p",),
+        VERILOG.replace(b"module sub", b"`default_nettype none\nmodule sub").replace(
+            b"module top", b"`default_nettype wire\nmodule top"
+        ),
+        None,
+    ),
+    (
+        ("s.m",),
+        VERILOG,
         (
-            ("p",),
-            VERILOG.replace(b"module sub", b"`default_nettype none\nmodule sub"),
-            "my.v:14: p isn't declared: `default_nettype none forbids implicit nets",
+            "my.v:14: s.m can't be read: it is a memory of sub, and nets and variables are"
+            " read: let a net have its value"
         ),
+    ),
+]
+
+
+@pytest.mark.parametrize("names, text, why", NOT_DECLARED)
+def test_not_declared(
+    checks: Checks, names: tuple[str, ...], text: bytes, why: str | None
+) -> None:
+    """Names that aren't declared."""
+    checks.wants(
+        names, why,
         (
-            ("p",),
-            VERILOG.replace(b"module sub", b"`default_nettype none\nmodule sub").replace(
-                b"module top", b"`default_nettype wire\nmodule top"
-            ),
-            None,
+            refused(found_names, top(*names), *names)
+            if text == VERILOG
+            else refused(lambda: found_names(top(*names), *names, text=text))
         ),
-        (
-            ("s.m",),
-            VERILOG,
-            (
-                "my.v:14: s.m can't be read: it is a memory of sub, and nets and variables are"
-                " read: let a net have its value"
-            ),
-        ),
-    ]
-    for names, text, why in faults:
-        checks.wants(
-            names, why,
-            (
-                refused(found_names, top(*names), *names)
-                if text == VERILOG
-                else refused(lambda: found_names(top(*names), *names, text=text))
-            ),
-        )
+    )
+
+
+def test_declared_several(checks: Checks) -> None:
+    """Names in several instances of a module."""
     low = (
         SUB.replace("wire width 4 offset 1 signed \\n", "wire width 3 \\n")
         .replace("\\sub", "$paramod\\sub\\P=1")
@@ -637,65 +693,79 @@ def test_unknown(checks: Checks) -> None:
     checks.wants("another error", None, names.unknown("t.v:9: ERROR: syntax error\n"))
 
 
+# A declaration of a path, and a use of it.
+JOINED = (
+    '  attribute \\hierconn 1\n  attribute \\src "t.v:19.2-19.9"\n  wire width 4 offset 1'
+    " signed \\s.n\n"
+)
+USED = "  connect \\y [0] \\s.n [1]\n"
+
+
 def test_checked(checks: Checks) -> None:
     """The design once it is read with the declarations."""
-    joined = (
-        '  attribute \\hierconn 1\n  attribute \\src "t.v:19.2-19.9"\n  wire width 4 offset 1'
-        " signed \\s.n\n"
-    )
-    used = "  connect \\y [0] \\s.n [1]\n"
     names = found_names(top("s.n"), "s.n")
-    good = top(cells=joined + used)
-    checks.wants("joined", write(top(cells=joined + used)), write(names.checked(good, "")))
+    good = top(cells=JOINED + USED)
+    checks.wants("joined", write(top(cells=JOINED + USED)), write(names.checked(good, "")))
     checks.wants(
         "not used", write(top()),
-        write(found_names(top("s.n"), "s.n").checked(top(cells=joined), "")),
+        write(found_names(top("s.n"), "s.n").checked(top(cells=JOINED), "")),
     )
-    cases = [
+
+
+# A module's cells, what yosys says, and why a path isn't what was declared.
+NOT_AS_DECLARED = [
+    (
+        JOINED.replace("offset 1 signed", "offset 1") + USED, "",
+        "my.v:14: s.n can't be read: what it is depends on what it is taken for",
+    ),
+    (
+        JOINED.replace("\\hierconn", "\\aigprove_unknown") + USED, "",
+        "my.v:14: s.n can't be read: what it is depends on what it is taken for",
+    ),
+    (
+        JOINED + USED + "  connect \\s.n 4'0000\n", "",
+        "my.v:14: s.n can't be read: it is written, and names in other modules are only read",
+    ),
+    (
+        JOINED.replace("\\s.n", "\\s.none") + "  connect \\y [0] \\s.none [1]\n", "",
         (
-            joined.replace("offset 1 signed", "offset 1") + used, "",
-            "my.v:14: s.n can't be read: what it is depends on what it is taken for",
+            "my.v:19: s.none can't be read: it isn't found: a name is read if its path goes"
+            " down from the module in which it stands, through instances and named blocks, to a"
+            " net or variable"
         ),
+    ),
+    (
+        JOINED + USED + wires("q"),
+        "t.v:14: Warning: Identifier `\\q' is implicitly declared.\n",
         (
-            joined.replace("\\hierconn", "\\aigprove_unknown") + used, "",
-            "my.v:14: s.n can't be read: what it is depends on what it is taken for",
+            "my.v:14: q isn't declared: where a script of "
+            "yosys reads it, or a module has interfaces, it has to be declared"
         ),
+    ),
+    (
+        JOINED + USED + wires("s.u"),
+        "t.v:14: Warning: Identifier `\\s.u' is implicitly declared.\n",
         (
-            joined + used + "  connect \\s.n 4'0000\n", "",
-            "my.v:14: s.n can't be read: it is written, and names in other modules are only read",
+            "my.v:14: s.u can't be read: where a script "
+            "of yosys reads it, or a module has interfaces, it has to be declared"
         ),
-        (
-            joined.replace("\\s.n", "\\s.none") + "  connect \\y [0] \\s.none [1]\n", "",
-            (
-                "my.v:19: s.none can't be read: it isn't found: a name is read if its path goes"
-                " down from the module in which it stands, through instances and named blocks, to a"
-                " net or variable"
-            ),
-        ),
-        (
-            joined + used + wires("q"),
-            "t.v:14: Warning: Identifier `\\q' is implicitly declared.\n",
-            (
-                "my.v:14: q isn't declared: where a script of "
-                "yosys reads it, or a module has interfaces, it has to be declared"
-            ),
-        ),
-        (
-            joined + used + wires("s.u"),
-            "t.v:14: Warning: Identifier `\\s.u' is implicitly declared.\n",
-            (
-                "my.v:14: s.u can't be read: where a script "
-                "of yosys reads it, or a module has interfaces, it has to be declared"
-            ),
-        ),
-        (
-            joined + used + "  wire \\t[0].n\n", "",
-            "top has a net of the name t[0].n, and an instance t[0] with n: rename one of them",
-        ),
-    ]
-    for cells, said, why in cases:
-        names = found_names(top("s.n"), "s.n")
-        checks.wants(cells, why, refused(names.checked, top(cells=cells), said))
+    ),
+    (
+        JOINED + USED + "  wire \\t[0].n\n", "",
+        "top has a net of the name t[0].n, and an instance t[0] with n: rename one of them",
+    ),
+]
+
+
+@pytest.mark.parametrize("cells, said, why", NOT_AS_DECLARED)
+def test_not_as_declared(checks: Checks, cells: str, said: str, why: str) -> None:
+    """Names that are something else than was declared."""
+    names = found_names(top("s.n"), "s.n")
+    checks.wants(cells, why, refused(names.checked, top(cells=cells), said))
+
+
+def test_declared_again(checks: Checks) -> None:
+    """Names that yosys declares once more."""
     again = "t.v:19: Warning: Identifier `\\s.n' is implicitly declared.\n"
     checks.wants(
         "declared again",
@@ -703,19 +773,19 @@ def test_checked(checks: Checks) -> None:
             "my.v:19: s.n can't be read: where a script of yosys reads it, or a module has"
             " interfaces, it has to be declared"
         ),
-        refused(found_names(top("s.n"), "s.n").checked, top(cells=joined + used), again),
+        refused(found_names(top("s.n"), "s.n").checked, top(cells=JOINED + USED), again),
     )
     checks.wants(
         "its own module",
         "my.v:14: top.s.n can't be read: what it is depends on what it is taken for",
         refused(
             found_names(top("top.s.n"), "top.s.n").checked,
-            top(cells=joined.replace("offset 1 signed", "offset 1") + used), "",
+            top(cells=JOINED.replace("offset 1 signed", "offset 1") + USED), "",
         ),
     )
     with_wire = found_names(top("p", "s.n"), "p", "s.n")
     given = refused(
-        with_wire.checked, top("p", cells=joined + used),
+        with_wire.checked, top("p", cells=JOINED + USED),
         "t.v:14: Warning: Identifier `\\p' is implicitly declared.\n",
     )
     checks.wants("a net that is declared", None, given)
@@ -831,6 +901,18 @@ def test_copies(checks: Checks, folder: pathlib.Path) -> None:
     checks.check(os.path.islink(yosys.place("0/source/list.vh")), "a link is a copy")
     checks.wants("beside", [str(beside), "."], yosys.beside)
     checks.wants("the path", str(beside / "a b;.v"), yosys.path)
+    yosys.fill({files[1].path: b"other"})
+    checks.wants(
+        "filled", [b"first", b"other"],
+        [open(yosys.place(yosys.copies[file.path]), "rb").read() for file in files[:2]],
+    )
+
+
+def test_links(checks: Checks, folder: pathlib.Path) -> None:
+    """Links of a file in no folder, and of one whose path is relative."""
+    beside = folder / "beside"
+    beside.mkdir()
+    (beside / "list.vh").write_text("list.vh")
     # Nothing stands beside a file in a folder that isn't there.
     other, _ = a_yosys(folder, None, [File("/nowhere/at/all.v", b"x")])
     checks.wants("no folder", ["design.v"], os.listdir(other.place("0/source")))
@@ -838,11 +920,6 @@ def test_copies(checks: Checks, folder: pathlib.Path) -> None:
     linked, _ = a_yosys(folder, None, [File(f"{relative}/c.v", b"x")])
     checks.wants(
         "an absolute link", str(beside / "list.vh"), os.readlink(linked.place("0/source/list.vh"))
-    )
-    yosys.fill({files[1].path: b"other"})
-    checks.wants(
-        "filled", [b"first", b"other"],
-        [open(yosys.place(yosys.copies[file.path]), "rb").read() for file in files[:2]],
     )
 
 
@@ -958,6 +1035,10 @@ def test_runs(checks: Checks, folder: pathlib.Path) -> None:
     other, _ = a_yosys(folder, lambda *_: "Warning: here\n")
     other.run("")
     checks.wants("it warns", [f"{folder}/t.v: yosys warns: here"], other.warnings)
+
+
+def test_late_runs(checks: Checks, folder: pathlib.Path) -> None:
+    """Runs that end late, that are given up, and that something goes on beside."""
     late = f"{folder}/t.v: timed out while yosys was still reading the design"
     other, task = a_yosys(folder, lambda *_: "", deadline=time.monotonic() - 1)
     checks.wants("late", (late, []), (refused(other.run, ""), task.scripts))
@@ -1006,14 +1087,16 @@ def beside(yosys: Yosys, call: Callable[..., Any]) -> None:
         call()
 
 
+def reading(made: str, is_ready: str, paths: dict[str, str], folders: list[str]) -> str:
+    """A script that reads a design."""
+    return (
+        f"read {' '.join(paths.values())}\nlook {' '.join(folders)}\nwrite {made}/below.il\ntee"
+        f" -q -o {is_ready} log ready\n"
+    )
+
+
 def test_reads(checks: Checks, folder: pathlib.Path) -> None:
     """Scripts that read a design from the folder where we are."""
-    def script(made: str, is_ready: str, paths: dict[str, str], folders: list[str]) -> str:
-        return (
-            f"read {' '.join(paths.values())}\nlook {' '.join(folders)}\nwrite {made}/below.il\ntee"
-            f" -q -o {is_ready} log ready\n"
-        )
-
     def texts(descriptors: list[int]) -> dict[str, bytes]:
         return {str(folder / "t.v"): b"folders %d" % len(descriptors)}
 
@@ -1021,7 +1104,7 @@ def test_reads(checks: Checks, folder: pathlib.Path) -> None:
     include.mkdir()
     yosys, task = a_yosys(folder, lambda *_: f"{yosys.descriptors} Warning: no\nWarning: yes\n")
     yosys.warnings = ["old"]
-    run = yosys.read(script, [str(include)], texts)
+    run = yosys.read(reading, [str(include)], texts)
     words, given, passed = task.scripts[0]
     checks.wants(
         "the script",
@@ -1046,10 +1129,19 @@ def test_reads(checks: Checks, folder: pathlib.Path) -> None:
             r"FD(\d)", lambda found: f"/proc/self/fd/{yosys.descriptors[int(found[1])]}", name
         )
         checks.wants(name, meaning, yosys.readable(place))
+
+
+def no_texts(descriptors: list[int]) -> dict[str, bytes]:
+    """No file has another text."""
+    return {}
+
+
+def test_reads_late(checks: Checks, folder: pathlib.Path) -> None:
+    """A fault counts once the design is read, and before."""
     failing, _ = a_yosys(folder, lambda *_: ("ERROR: early\n", 1, False))
-    checks.wants("not ready", "ERROR: early", refused(failing.read, script, [], texts))
+    checks.wants("not ready", "ERROR: early", refused(failing.read, reading, [], no_texts))
     ready, _ = a_yosys(folder, lambda *_: ("ERROR: later\n", 1, True))
-    run = ready.read(script, [], texts)
+    run = ready.read(reading, [], no_texts)
     checks.wants("ready", "ERROR: later", refused(run.printed))
 
 
@@ -1189,6 +1281,10 @@ def test_one_reading(checks: Checks, folder: pathlib.Path) -> None:
         ("gates", "// Cells of yosys"),
     ]:
         checks.check(design.yosys.text(f"aigprove_{name}.v").startswith(begin), f"the map {name}")
+
+
+def test_reading_options(checks: Checks, folder: pathlib.Path) -> None:
+    """The commands that options are for."""
     include = folder / "inc"
     include.mkdir()
     boxed = (
@@ -1206,6 +1302,10 @@ def test_one_reading(checks: Checks, folder: pathlib.Path) -> None:
     )
     checks.wants("options", [wanted], reader.scripts(design))
     checks.wants("macros", "`define A 1\n`define B x y\n", design.yosys.text("defines.v"))
+
+
+def test_reading_files(checks: Checks, folder: pathlib.Path) -> None:
+    """The commands that read files of each kind."""
     files = [File(str(folder / name), b"x") for name in ["a.il", "b.blif", "c.ys", "d.sv"]]
     reader = Reader(folder, ONE)
     design = reader.read(files)
@@ -1243,108 +1343,118 @@ def test_one_reading(checks: Checks, folder: pathlib.Path) -> None:
     )
 
 
-def test_refusals(checks: Checks, folder: pathlib.Path) -> None:
+# Options, what yosys gives, and why a design is refused, where {} is its folder.
+REFUSED: list[tuple[dict[str, Any], Any, str | None]] = [
+    ({"top": "1top"}, ONE, "1top isn't a name of a module"),
+    ({}, "", "{}/t.v has no module"),
+    (
+        {},
+        asserting("\\top", attributes=()),
+        "{}/t.v has no module that isn't empty or a black box",
+    ),
+    ({"black_box": ("none",)}, ONE, "the design has no module none"),
+    ({}, ONE + asserting("\\box", attributes=("blackbox 1",)), None),
+    (
+        {},
+        asserting("\\top", ("\\box", "\\b")) + asserting("\\box", attributes=("blackbox 1",)),
+        (
+            "box is a black box: give its file too, or let its outputs have any values"
+            " (--black-box box)"
+        ),
+    ),
+    (
+        {"black_box": ("box",)},
+        asserting("\\top", ("\\box", "\\b")) + asserting("\\box", attributes=("blackbox 1",)),
+        None,
+    ),
+    (
+        {"black_box": ("top",)},
+        asserting("\\top", ("\\box", "\\b")) + asserting("\\box", attributes=("blackbox 1",)),
+        (
+            "box is a black box: give its file too, or let its outputs have any values"
+            " (--black-box box)"
+        ),
+    ),
+    (
+        {},
+        ONE.replace(
+            "\nend\n",
+            (
+                '\n  process $p\n    attribute \\src "t.v:4.1-4.9"\n    switch \\s\n      case'
+                " 1'x\n    end\n  end\nend\n"
+            ),
+        ),
+        "t.v:4.1-4.9: an item of this case is x or z",
+    ),
+    (
+        {},
+        ONE.replace(
+            "\nend\n",
+            "\n  wire \\y\n  connect \\y 1'0\n  connect \\y 1'1\n  connect \\z \\y\nend\n",
+        ),
+        "top: y has several drivers, or several initial values",
+    ),
+    (
+        {},
+        ONE.replace("\nend\n", "\n  wire \\s.i\n  cell \\sub \\s\n  end\nend\n")
+        + asserting("\\sub", attributes=(), wires="  wire \\i\n"),
+        "top has a net of the name s.i, and an instance s with i: rename one of them",
+    ),
+    ({"parameter": (("W", "8"),)}, ONE, "top has no parameter W"),
+    (
+        {"parameter": (("W", "8"),)},
+        asserting("\\top", ("$assert", "\\a"), wires="  parameter \\V 3\n  parameter \\U 1\n"),
+        "top has no parameter W, but V, U",
+    ),
+    (
+        {},
+        (None, None, "{}/t.v:1: ERROR: syntax error, unexpected x\n", 1, False),
+        (
+            "{}/t.v:1: ERROR: syntax error, unexpected x; what yosys doesn't read another front"
+            " end may: it is taken as an .il file, or by a script of yosys, .ys"
+        ),
+    ),
+    (
+        {},
+        (None, None, "ERROR: Module `m' is not part of the design.\n", 1, False),
+        (
+            "ERROR: Module `m' is not part of the design.; give its file too, or its ports"
+            " alone, as an empty module"
+        ),
+    ),
+    (
+        {},
+        (None, None, "ERROR: Can't open include file `x'\n", 1, False),
+        "ERROR: Can't open include file `x'; -I FOLDER says where it is",
+    ),
+    # A fault of yosys's comes before one of its file.
+    ({}, (ONE, "nonsense\n", "ERROR: later\n", 1, True), "ERROR: later"),
+    (
+        {},
+        (ONE, "nonsense\n", "fine\n", 0, True),
+        "yosys writes a line that isn't known: nonsense",
+    ),
+]
+
+
+@pytest.mark.parametrize("options, answer, why", REFUSED)
+def test_refusals(
+    checks: Checks, folder: pathlib.Path, options: dict[str, Any], answer: Any, why: str | None
+) -> None:
     """Designs that are refused."""
-    for options, answer, why in [
-        ({"top": "1top"}, ONE, "1top isn't a name of a module"),
-        ({}, "", "{}/t.v has no module"),
-        (
-            {},
-            asserting("\\top", attributes=()),
-            "{}/t.v has no module that isn't empty or a black box",
-        ),
-        ({"black_box": ("none",)}, ONE, "the design has no module none"),
-        ({}, ONE + asserting("\\box", attributes=("blackbox 1",)), None),
-        (
-            {},
-            asserting("\\top", ("\\box", "\\b")) + asserting("\\box", attributes=("blackbox 1",)),
-            (
-                "box is a black box: give its file too, or let its outputs have any values"
-                " (--black-box box)"
-            ),
-        ),
-        (
-            {"black_box": ("box",)},
-            asserting("\\top", ("\\box", "\\b")) + asserting("\\box", attributes=("blackbox 1",)),
-            None,
-        ),
-        (
-            {"black_box": ("top",)},
-            asserting("\\top", ("\\box", "\\b")) + asserting("\\box", attributes=("blackbox 1",)),
-            (
-                "box is a black box: give its file too, or let its outputs have any values"
-                " (--black-box box)"
-            ),
-        ),
-        (
-            {},
-            ONE.replace(
-                "\nend\n",
-                (
-                    '\n  process $p\n    attribute \\src "t.v:4.1-4.9"\n    switch \\s\n      case'
-                    " 1'x\n    end\n  end\nend\n"
-                ),
-            ),
-            "t.v:4.1-4.9: an item of this case is x or z",
-        ),
-        (
-            {},
-            ONE.replace(
-                "\nend\n",
-                "\n  wire \\y\n  connect \\y 1'0\n  connect \\y 1'1\n  connect \\z \\y\nend\n",
-            ),
-            "top: y has several drivers, or several initial values",
-        ),
-        (
-            {},
-            ONE.replace("\nend\n", "\n  wire \\s.i\n  cell \\sub \\s\n  end\nend\n")
-            + asserting("\\sub", attributes=(), wires="  wire \\i\n"),
-            "top has a net of the name s.i, and an instance s with i: rename one of them",
-        ),
-        ({"parameter": (("W", "8"),)}, ONE, "top has no parameter W"),
-        (
-            {"parameter": (("W", "8"),)},
-            asserting("\\top", ("$assert", "\\a"), wires="  parameter \\V 3\n  parameter \\U 1\n"),
-            "top has no parameter W, but V, U",
-        ),
-        (
-            {},
-            (None, None, "{}/t.v:1: ERROR: syntax error, unexpected x\n", 1, False),
-            (
-                "{}/t.v:1: ERROR: syntax error, unexpected x; what yosys doesn't read another front"
-                " end may: it is taken as an .il file, or by a script of yosys, .ys"
-            ),
-        ),
-        (
-            {},
-            (None, None, "ERROR: Module `m' is not part of the design.\n", 1, False),
-            (
-                "ERROR: Module `m' is not part of the design.; give its file too, or its ports"
-                " alone, as an empty module"
-            ),
-        ),
-        (
-            {},
-            (None, None, "ERROR: Can't open include file `x'\n", 1, False),
-            "ERROR: Can't open include file `x'; -I FOLDER says where it is",
-        ),
-        # A fault of yosys's comes before one of its file.
-        ({}, (ONE, "nonsense\n", "ERROR: later\n", 1, True), "ERROR: later"),
-        (
-            {},
-            (ONE, "nonsense\n", "fine\n", 0, True),
-            "yosys writes a line that isn't known: nonsense",
-        ),
-    ]:
-        answer = (
-            tuple(it.format(folder) if isinstance(it, str) and "{}/" in it else it for it in answer)
-            if isinstance(answer, tuple)
-            else answer
-        )
-        checks.wants(
-            (options, answer), why and why.format(folder),
-            refused(lambda: Reader(folder, answer).read(**options)),
-        )
+    answer = (
+        tuple(it.format(folder) if isinstance(it, str) and "{}/" in it else it for it in answer)
+        if isinstance(answer, tuple)
+        else answer
+    )
+    checks.wants(
+        (options, answer), why and why.format(folder),
+        refused(lambda: Reader(folder, answer).read(**options)),
+    )
+
+
+def test_late_reading(checks: Checks, folder: pathlib.Path) -> None:
+    """A design that isn't read in time."""
     try:
         reader = Reader(folder, ONE)
         reader.read(deadline=time.monotonic() - 1)
@@ -1354,9 +1464,8 @@ def test_refusals(checks: Checks, folder: pathlib.Path) -> None:
         )
 
 
-def test_rewriting(checks: Checks, folder: pathlib.Path) -> None:
-    """What yosys doesn't read, once it is written otherwise: the texts, and the scripts that are
-    given them."""
+def unread_of(folder: pathlib.Path) -> tuple[File, tuple[Any, ...], str]:
+    """A file with a property, what yosys says of it, and its text once macros are expanded."""
     text = b"module top(input c, a); assert property (@(posedge c) a |-> a);\nendmodule\n"
     file = File(str(folder / "t.v"), text)
     unread = (None, None, f"{folder}/t.v:1: ERROR: syntax error, unexpected '@'\n", 1, False)
@@ -1365,6 +1474,13 @@ def test_rewriting(checks: Checks, folder: pathlib.Path) -> None:
         ' "/proc/self/fd/{}/0/source/design.v"\n/* synthesis translate_off'
         f" */{text.decode()}\n`file_pop\n-- END OF DUMP --\n"
     )
+    return file, unread, shown
+
+
+def test_rewriting(checks: Checks, folder: pathlib.Path) -> None:
+    """What yosys doesn't read, once it is written otherwise: the texts, and the scripts that are
+    given them."""
+    file, unread, shown = unread_of(folder)
     reader = Reader(folder, unread, ONE, expanded=shown)
     design = reader.read([file])
     read, expanding, again = reader.scripts(design)
@@ -1384,6 +1500,11 @@ def test_rewriting(checks: Checks, folder: pathlib.Path) -> None:
     )
     locations = [design.location(place) for place in ("t.v:3.120-4.9", "x")]
     checks.wants("its place", ["t.v:3", "x"], locations)
+
+
+def test_rewritten_again(checks: Checks, folder: pathlib.Path) -> None:
+    """A text that is written otherwise is read again."""
+    file, unread, shown = unread_of(folder)
     # Each later reading takes the same texts, and a fault of it is its own.
     other = asserting("\\top", ("$cover", "\\c")) + asserting("\\better", ("$assert", "\\a"))
     reader = Reader(folder, unread, (other, asserting("\\top"), ""), ONE, expanded=shown)
@@ -1396,6 +1517,11 @@ def test_rewriting(checks: Checks, folder: pathlib.Path) -> None:
     checks.wants("names", "ERROR: later", refused(reader.read, [file]))
     looking = reader.task.scripts[-1][1]
     checks.check("-nopp -dump_ast1" in looking, f"names are looked up by {looking}")
+
+
+def test_not_rewritten(checks: Checks, folder: pathlib.Path) -> None:
+    """Faults that stay, and properties that can't be written otherwise."""
+    file, unread, shown = unread_of(folder)
     for said, expanded, why in [
         ("ERROR: syntax error", shown.replace("@(posedge c) a |->", "a &&"), "ERROR: syntax error"),
         ("ERROR: Can't open", shown, "ERROR: Can't open"),
@@ -1444,20 +1570,23 @@ def raised(call: Callable[..., Any], *given: list[File]) -> TranslationTimeout:
     return None
 
 
+# A design whose top module is plain, and another top module.
+LOW = asserting("\\low", ("$assert", "\\deep"), ("$cover", "\\seen"), attributes=())
+WHOLE_TOP = (
+    asserting(
+        "\\top", ("\\low", "\\l"), ("$assert", "\\a"), ("$cover", "\\c"), ("$live", "\\l1"),
+        ("$fair", "\\f"), ("$assume", "\\as"),
+    )
+    + LOW
+)
+OTHER_TOP = asserting(
+    "\\other", ("$assert", "\\unseen"), ("$live", "$live$1"), ("$assume", "\\as"), attributes=()
+)
+
+
 def test_tops(checks: Checks, folder: pathlib.Path) -> None:
     """Which module is the top one, and what isn't asked about."""
-    low = asserting("\\low", ("$assert", "\\deep"), ("$cover", "\\seen"), attributes=())
-    whole = (
-        asserting(
-            "\\top", ("\\low", "\\l"), ("$assert", "\\a"), ("$cover", "\\c"), ("$live", "\\l1"),
-            ("$fair", "\\f"), ("$assume", "\\as"),
-        )
-        + low
-    )
-    other = asserting(
-        "\\other", ("$assert", "\\unseen"), ("$live", "$live$1"), ("$assume", "\\as"), attributes=()
-    )
-    design = Reader(folder, (whole + other, whole, "")).read()
+    design = Reader(folder, (WHOLE_TOP + OTHER_TOP, WHOLE_TOP, "")).read()
     wanted = [
         ("", "other is a top module too, and not asked about"),
         ("$cover", "cover top.c (t.v:13.3-13.9) is not asked about"),
@@ -1470,7 +1599,11 @@ def test_tops(checks: Checks, folder: pathlib.Path) -> None:
     ]
     checks.wants("left out", wanted, design.unchecked)
     checks.wants("kinds", ("top", True, True), (design.top, design.has_covers, design.has_lives))
-    design = Reader(folder, (whole + other, whole, "")).read(multiclock=True)
+
+
+def test_tops_by_options(checks: Checks, folder: pathlib.Path) -> None:
+    """What isn't asked about with several clocks, and with a top module that is named."""
+    design = Reader(folder, (WHOLE_TOP + OTHER_TOP, WHOLE_TOP, "")).read(multiclock=True)
     lived = [line for _, line in design.unchecked if "liveness" in line or "fairness" in line]
     checks.wants(
         "with several clocks", (False, True),
@@ -1484,7 +1617,7 @@ def test_tops(checks: Checks, folder: pathlib.Path) -> None:
         [("", "fairness assumption top.f (t.v:15.3-15.9) is not asked about with --multiclock")],
         [it for it in design.unchecked if "fairness" in it[1]],
     )
-    reader = Reader(folder, (whole + other, whole, ""))
+    reader = Reader(folder, (WHOLE_TOP + OTHER_TOP, WHOLE_TOP, ""))
     design = reader.read(top="top")
     checks.wants(
         "a top that is named", (True, "hierarchy -check -top top"),
@@ -1493,8 +1626,11 @@ def test_tops(checks: Checks, folder: pathlib.Path) -> None:
             reader.scripts(design)[0][2],
         ),
     )
-    # Where yosys takes a top module without an assertion, the one is read below which most are, or
-    # the last of these.
+
+
+def test_better_top(checks: Checks, folder: pathlib.Path) -> None:
+    """If yosys takes a top module without an assertion, the one is read below which most are, or
+    the last of these."""
     empty = asserting("\\top", ("$assume", "\\as"))
     many = asserting("\\many", ("$assert", "\\a"), ("$live", "\\b"), attributes=())
     few, last = (
@@ -1532,15 +1668,24 @@ def test_tops(checks: Checks, folder: pathlib.Path) -> None:
             ],
             told,
         )
+
+
+def test_assertions_below(checks: Checks, folder: pathlib.Path) -> None:
+    """How many properties are below a module."""
+    empty = asserting("\\top", ("$assume", "\\as"))
     odd = empty + asserting("\\a-b", ("$assert", "\\a"), attributes=())
     checks.wants("no name", "top", Reader(folder, (odd, empty, "")).read().top)
     checks.wants(
         "asked below", [3, 1, 0],
         [
-            assertions_below(cells_of_all(whole + other), names)
+            assertions_below(cells_of_all(WHOLE_TOP + OTHER_TOP), names)
             for names in [{"top", "low"}, {"low"}, set()]
         ],
     )
+
+
+def test_parameters(checks: Checks, folder: pathlib.Path) -> None:
+    """Parameters of the top module."""
     with_parameter = asserting(
         "\\top", ("$assert", "\\a"), wires="  parameter \\W 3\n  parameter \\V 3\n"
     )
@@ -1593,6 +1738,10 @@ def test_features(checks: Checks, folder: pathlib.Path) -> None:
     ]:
         given, partial = lines(text, **options)
         checks.wants(name, wanted, (given, partial))
+
+
+def test_freed(checks: Checks, folder: pathlib.Path) -> None:
+    """What of a design has other names, and is free."""
     freed = Reader(
         folder, ONE.replace("\nend\n", "\n  wire \\f$func$t.v:3$7.i\n  connect \\y 1'x\nend\n")
     ).read()
@@ -1639,6 +1788,10 @@ endmodule
         "lines", ["add -assume rst", "techmap -autoproc -max_iter 1 -map aigprove_late.v @late"],
         [given[1], given[-1]],
     )
+
+
+def test_resets_of_clocks(checks: Checks, folder: pathlib.Path) -> None:
+    """A reset where inputs and clocks change in moments."""
     several = Reader(folder, ONE).read(reset=Reset("rst", 1, 4), multiclock=True)
     text = several.yosys.text("aigprove_late.v")
     checks.wants(
@@ -1684,8 +1837,8 @@ ERROR = (
 )
 
 
-def test_looking_up(checks: Checks, folder: pathlib.Path) -> None:
-    """Names are looked up where yosys refuses one."""
+def names_of(folder: pathlib.Path) -> tuple[str, str, tuple[Any, ...]]:
+    """A design with an implicit net, what yosys says of it, and how it refuses it."""
     whole = NAMING + NAMING_SUB
     said = (
         DUMP.format("")
@@ -1693,6 +1846,12 @@ def test_looking_up(checks: Checks, folder: pathlib.Path) -> None:
         + "t.v:14: Warning: Identifier `\\p' is implicitly declared.\n"
     )
     error = (None, None, ERROR.format(folder), 1, False)
+    return whole, said, error
+
+
+def test_looking_up(checks: Checks, folder: pathlib.Path) -> None:
+    """Names are looked up where yosys refuses one."""
+    whole, said, error = names_of(folder)
     reader = Reader(folder, error, (whole, whole, said), (whole, whole, ""))
     design = reader.read()
     fronts = [
@@ -1715,6 +1874,11 @@ def test_looking_up(checks: Checks, folder: pathlib.Path) -> None:
         ),
     )
     checks.wants("flat first", scripts.FLAT_FIRST, design.flat)
+
+
+def test_looking_up_faults(checks: Checks, folder: pathlib.Path) -> None:
+    """Faults and warnings of readings."""
+    whole, said, error = names_of(folder)
     reader = Reader(
         folder, error, (whole, whole, said),
         (
@@ -1742,6 +1906,11 @@ def test_looking_up(checks: Checks, folder: pathlib.Path) -> None:
     checks.wants("a warning", 3, len(reader.task.scripts))
     reader = Reader(folder, (whole, whole, warned_first[2], 1, True))
     checks.wants("a fault behind it", "yosys ended with status 1", refused(reader.read))
+
+
+def test_looking_up_bound(checks: Checks, folder: pathlib.Path) -> None:
+    """What is bound to a module is put there, and names are looked up."""
+    whole, said, error = names_of(folder)
     binding = DUMP.format("module sub; endmodule\nbind top sub b(.i(p));\n")
     reader = Reader(
         folder, (whole, whole, binding), (whole, whole, binding), (whole, whole, said),
@@ -1761,6 +1930,11 @@ def test_looking_up(checks: Checks, folder: pathlib.Path) -> None:
     )
     folders = [int(it) for it in re.findall(rb'file_push "/proc/self/fd/(\d+)/', text)]
     checks.wants("folders", [design.yosys.descriptors[0]], folders)
+
+
+def test_looking_up_misread(checks: Checks, folder: pathlib.Path) -> None:
+    """What yosys would read as something else is refused, once it is looked for, too."""
+    whole, said, error = names_of(folder)
     misread = DUMP.format("module low; always a = 1; endmodule\n")
     for below, is_refused in [(NAMING + NAMING_SUB.replace("sub", "low"), True), (whole, False)]:
         given = refused(
@@ -2001,6 +2175,14 @@ def with_cells(**cells: dict[str, Any]) -> dict[str, Any]:
     }
 
 
+# The assertions of the file that is made.
+ASSERTIONS = [
+    ("holds", "t.v:3.5-3.30", True),
+    ("s.deep", "t.v:5.2-6.12", True),
+    ("$assert$t.v:7$1", "", False),
+]
+
+
 def test_made_files(checks: Checks, folder: pathlib.Path) -> None:
     """The scripts that make a file, and what is told of it."""
     maker = Maker(folder)
@@ -2013,12 +2195,7 @@ def test_made_files(checks: Checks, folder: pathlib.Path) -> None:
         (design.file, design.top, design.clock, design.constants),
     )
     checks.wants("counted", {"$assert": 1, "$assume": 2}, design.counts)
-    wanted = [
-        ("holds", "t.v:3.5-3.30", True),
-        ("s.deep", "t.v:5.2-6.12", True),
-        ("$assert$t.v:7$1", "", False),
-    ]
-    checks.wants("assertions", wanted, list(map(tuple, design.assertions)))
+    checks.wants("assertions", ASSERTIONS, list(map(tuple, design.assertions)))
     checks.wants("about", "top: 1 assertion, 2 assumptions", design.about())
     checks.wants(
         "named", [("top.holds", "t.v:3.5-3.30"), ("top.s.deep", "t.v:5.2-6.12"), ("", "")],
@@ -2036,6 +2213,15 @@ def test_made_files(checks: Checks, folder: pathlib.Path) -> None:
             )
         ),
     )
+    checks.wants("left open", [], design.left_open)
+    checks.wants(
+        "all names", {"y": ["y", "s.q"], "s.q": ["y", "s.q"]},
+        {name: design.aliases[name] for name in ["y", "s.q"]},
+    )
+
+
+def test_ordered_files(checks: Checks, folder: pathlib.Path) -> None:
+    """Properties are in the order of the text."""
     for kind, file, ordered in [
         (ASSERT, "aig 0 0 0 0 0 3\n6\n4\n2\n", b"aig 0 0 0 0 0 3\n2\n4\n6\n"),
         (
@@ -2047,12 +2233,11 @@ def test_made_files(checks: Checks, folder: pathlib.Path) -> None:
         maker.file = file
         other = maker.design(kind=kind)
         given = list(map(tuple, other.assertions)), open(other.file, "rb").read(), other.order
-        checks.wants("in the order of the text", (wanted, ordered, [2, 1, 0]), given)
-    checks.wants("left open", [], design.left_open)
-    checks.wants(
-        "all names", {"y": ["y", "s.q"], "s.q": ["y", "s.q"]},
-        {name: design.aliases[name] for name in ["y", "s.q"]},
-    )
+        checks.wants("in the order of the text", (ASSERTIONS, ordered, [2, 1, 0]), given)
+
+
+def test_made_with_reset(checks: Checks, folder: pathlib.Path) -> None:
+    """The scripts that make a file of a design with a reset."""
     reset = maker_of(folder, reset=Reset("rst", 0, 2))
     checks.wants("a reset", ("top: 1 assertion, 2 assumptions, rst=0 in the first 2 steps", True),
                  (reset[1].about(), "add -assume rst" in reset[0].written(reset[1])[1]))
@@ -2070,6 +2255,10 @@ def test_made_files(checks: Checks, folder: pathlib.Path) -> None:
         "among the assumptions", ({"$assert": 1, "$assume": 1}, False),
         (several[1].counts, "add -assume rst" in several[0].written(several[1])[1]),
     )
+
+
+def test_made_kinds(checks: Checks, folder: pathlib.Path) -> None:
+    """The scripts that make a file of covers, and of liveness assertions."""
     for kind, chosen, counted in [
         (
             COVER,
@@ -2086,6 +2275,10 @@ def test_made_files(checks: Checks, folder: pathlib.Path) -> None:
         freeing = maker.written(design)[0]
         place = freeing.index("flatten") + 1
         checks.wants(kind, (chosen, counted), (freeing[place:place + len(chosen)], design.counts))
+
+
+def test_maps(checks: Checks, folder: pathlib.Path) -> None:
+    """Which cells yosys maps by ours."""
     for cell, further in [
         ("$add", ""),
         ("$pmux", ""),
@@ -2113,6 +2306,10 @@ def test_made_files(checks: Checks, folder: pathlib.Path) -> None:
         "all that maps know", BY_MAPS,
         [line for line in maker.written(maker.design())[1] if line in BY_MAPS or "techmap" in line],
     )
+
+
+def test_free_values(checks: Checks, folder: pathlib.Path) -> None:
+    """Names of free values are those of the design."""
     free = {
         **with_cells(),
         "ports": {
@@ -2173,6 +2370,10 @@ def test_sizes(checks: Checks, folder: pathlib.Path) -> None:
             ]
         )
         checks.wants("written", own, writing[0][:len(own)])
+
+
+def test_failing(checks: Checks, folder: pathlib.Path) -> None:
+    """What yosys can't do in a script."""
     failing = Maker(folder, fails=lambda script: "design -reset" in script)
     design = failing.design()
     freeing, first, again = failing.written(design)
@@ -2258,6 +2459,10 @@ def test_bad_designs(checks: Checks, folder: pathlib.Path) -> None:
             (options, wanted), wanted,
             refused(lambda: Maker(folder, module, drawn).design(**options)),
         )
+
+
+def test_no_clock(checks: Checks, folder: pathlib.Path) -> None:
+    """A design in which no register has the clock."""
     # A clock that none of the registers has may be the reset.
     unclocked = {name: it for name, it in CELLS.items() if it["type"] != "$dff"}
     module = {**with_cells(), "cells": unclocked}
@@ -2276,6 +2481,10 @@ def test_bad_designs(checks: Checks, folder: pathlib.Path) -> None:
     checks.wants("one is spare", True, "add -input aigprove_clock 1" in maker.written(design)[1])
     spared = Maker(folder).design()
     checks.wants("none is", "", spared.spare())
+
+
+def test_odd_tops(checks: Checks, folder: pathlib.Path) -> None:
+    """A top module whose name isn't one, and one without an assertion."""
     maker = Maker(folder)
     maker.drawn = maker.drawn.replace('"top": {"ports"', '"1x": {"ports"')
     maker.make = lambda place, script, make=maker.make: (
@@ -2291,11 +2500,14 @@ def test_bad_designs(checks: Checks, folder: pathlib.Path) -> None:
     checks.wants("no assertion", [], empty.design().assertions)
 
 
+# A file with the lines of a design's assertions.
+SPELLED = [File("t.v", b"one\ntwo\n  three \x1b;\nf\xffour\n five\t\nsix" + b"y" * 300 + b"\n")]
+
+
 def test_replays(checks: Checks, folder: pathlib.Path) -> None:
     """What yosys is given to run a witness, and what it says."""
-    files = [File("t.v", b"one\ntwo\n  three \x1b;\nf\xffour\n five\t\nsix" + b"y" * 300 + b"\n")]
     maker = Maker(folder)
-    design = maker.read(files, make=Design)
+    design = maker.read(SPELLED, make=Design)
     failed, dump = design.run(Witness(1, "01x", ["1x", "00"]))
     checks.wants(
         "failed", (["top.holds (t.v:3.5-3.30)", "top.s.deep (t.v:5.2-6.12)"], "$end\n"),
@@ -2316,6 +2528,10 @@ def test_replays(checks: Checks, folder: pathlib.Path) -> None:
     )
     checks.wants("made ready", wanted, design.yosys.text("replayed.il"))
     checks.wants("a module", ("y", 2), (design.module.names[6], design.module.width("a")))
+
+
+def test_replays_of_clocks(checks: Checks, folder: pathlib.Path) -> None:
+    """A clock's edge in a run, and a clock that no register has."""
     falling = {
         **with_cells(),
         "cells": {
@@ -2344,7 +2560,11 @@ def test_replays(checks: Checks, folder: pathlib.Path) -> None:
         (True, "connect \\CLK \\aigprove_clock\n" in design.yosys.text("replayed.il")),
         ("sim -clock \\aigprove_clock -r" in maker.scripts(design)[-1][-1], True),
     )
-    design = Maker(folder).read(files, make=Design)
+
+
+def test_spelled(checks: Checks, folder: pathlib.Path) -> None:
+    """The text of an assertion, and of a place."""
+    design = Maker(folder).read(SPELLED, make=Design)
     checks.wants(
         "assertions",
         [

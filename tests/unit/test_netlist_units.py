@@ -94,7 +94,10 @@ DROPPED = [
     ("  wire width 4 \\v\n" + EDGES.format("4'x", "posedge \\rst") + "  connect \\y \\v\n", False),
     ("  wire width 4 \\v\n" + EDGES.format("$0\\v", "posedge \\rst"), False),
     ("  wire width 4 \\v\n" + EDGES.format("4'00xx", "posedge \\rst"), False),
-    ("  wire width 4 \\v\n" + EDGES.format("4'x", "always"), False),
+    *(
+        ("  wire width 4 \\v\n" + EDGES.format("4'x", untimed), False)
+        for untimed in ["always", "init", "global"]
+    ),
     (
         "  wire width 8 \\v\n"
         + EDGES.format("4'x", "posedge \\rst").replace("update \\v", "update \\v [3:0]"),
@@ -314,6 +317,7 @@ GIVEN_ONCE = [
     ("  connect { \\a [0] \\b } { 1'1 \\c }\n  connect \\b 1'1\n  connect \\y \\b\n", None),
     ("  connect \\a { 1'1 \\c }\n  connect \\a 2'01\n  connect \\y \\a\n", None),
     ("  connect \\u 2'10\n  connect \\u 2'00\n  connect \\y { \\u \\u \\u }\n", None),
+    ("  connect \\a \\c\n  connect \\a \\d\n  connect \\a 2'00\n  connect \\y \\a\n", None),
     (
         "".join(
             ONCE.format(i, text).replace("$0\\a 3", "{ $0\\a \\b } 3")
@@ -416,13 +420,15 @@ FAULTS = [
 ]
 
 
-def test_verilog(checks: Checks) -> None:
-    """Texts in Verilog."""
-    for text, wanted in FAULTS:
-        given = is_refused(
-            Text(f'`file_push "t.v"\nmodule top; {text}\nendmodule\n'.encode()).check, {"top"}
-        )
-        checks.wants(text, wanted, given)
+@pytest.mark.parametrize("text, wanted", FAULTS)
+def test_verilog(checks: Checks, text: str, wanted: str | None) -> None:
+    """What a module's text in Verilog may not have."""
+    made = Text(f'`file_push "t.v"\nmodule top; {text}\nendmodule\n'.encode())
+    checks.wants(text, wanted, is_refused(made.check, {"top"}))
+
+
+def test_other_texts(checks: Checks) -> None:
+    """A comment without an end, and what isn't in a module."""
     checks.wants(
         "a comment",
         "t.v:2: a comment isn't ended",
@@ -432,6 +438,10 @@ def test_verilog(checks: Checks) -> None:
     checks.wants("outside of all", f"t.v:1: {ENDLESS}", is_refused(Text(outside).check, {"top"}))
     behind = b'`file_push "t.v"\nmodule other; endmodule always a = 1;\nmodule top; endmodule\n'
     checks.wants("behind one", f"t.v:1: {ENDLESS}", is_refused(Text(behind).check, {"top"}))
+
+
+def test_places(checks: Checks) -> None:
+    """The file and the line of a place."""
     nested = (
         b'`file_push "t.v"\n\n`file_push "u.v"\n\n\nX\n`file_pop\n\nY\n`file_pop\nZ\n`file_pop\nW'
     )
@@ -442,6 +452,10 @@ def test_verilog(checks: Checks) -> None:
         [text.place(nested.index(sign)) for sign in (b"X", b"Y", b"Z", b"W")],
     )
     checks.wants("no file", [":0", ":1"], [Text(b"a\nb").place(place) for place in (0, 2)])
+
+
+def test_modules(checks: Checks) -> None:
+    """Where modules are in a text."""
     spans = (
         b"module a; endmodule\n`default_nettype none\nmodule automatic b;"
         b" endmodule\n`default_nettype  wire\nmacromodule \\c+ ; `define x\nendmodule module `x"
@@ -461,6 +475,10 @@ def test_verilog(checks: Checks) -> None:
         ["a", None, "b"],
         [Text(spans).module(place) for place in (0, spans.index(b"endmodule"), spans.index(b"b;"))],
     )
+
+
+def test_changed_texts(checks: Checks) -> None:
+    """A text with other lines, and without comments and strings."""
     checks.wants(
         "lines",
         b"module a; x endmodule module b; endmodule z",
@@ -469,21 +487,36 @@ def test_verilog(checks: Checks) -> None:
     checks.wants(
         "words", b"a     \n   b " + b" " * 6, Text(b'a /* c\n*/ b "\\"d" '[:-1] + b" ").words
     )
-    for given, wanted in [
+
+
+@pytest.mark.parametrize(
+    "given, wanted",
+    [
         ({"a.v": b"module m; endmodule bind m.x s t(.a(b));"}, f":0: {BINDING}"),
         ({"a.v": b"bind m s t(.a(b));"}, f"m: {BINDING}"),
         ({"a.v": b"bind m s t;\n", "b.v": b"module m; endmodule bind m u v;"}, None),
         ({"a.v": b"wire a_bind, bind_a;"}, None),
         ({"a.v": b"wire bin ;"}, None),
         ({"a.v": b"module m; endmodule bind m #(1) s t;"}, f":0: {BINDING}"),
-    ]:
-        checks.wants(given, wanted, is_refused(bound, given))
+    ],
+)
+def test_binding(checks: Checks, given: dict[str, bytes], wanted: str | None) -> None:
+    """What is bound to a module in a way that isn't read."""
+    checks.wants(given, wanted, is_refused(bound, given))
+
+
+def test_bound_twice(checks: Checks) -> None:
+    """Two bound instances are put into their module."""
     twice = {"a.v": b"bind m s t;\n", "b.v": b"module m; endmodule bind m\nu  v;"}
     checks.wants(
         "bound twice",
         {"a.v": b"           \n", "b.v": b"module m; s t; u v; endmodule       \n     "},
         bound(twice),
     )
+
+
+def test_dumps(checks: Checks) -> None:
+    """What yosys prints of texts, and their folders."""
     dump = (
         b"-- Verilog code after preprocessor --\na\n-- END OF DUMP --\nsaid\n-- Verilog code after"
         b" preprocessor --\n-- END OF DUMP --\n"
@@ -539,7 +572,7 @@ end
 
 
 def test_hierarchy(checks: Checks) -> None:
-    """Which modules and cells a design has, and paths of its nets."""
+    """Which modules and cells a design has."""
     design = parse(MANY)
     cells = list(modules.cells_of(design))
     wanted = [
@@ -559,6 +592,10 @@ def test_hierarchy(checks: Checks) -> None:
         [{"top", "low"}, {"alone"}],
         [modules.reached(cells, name) for name in ["top", "alone"]],
     )
+
+
+def test_paths(checks: Checks) -> None:
+    """Paths of a design's nets."""
     nets = {
         "a.b": {"attributes": {"hdlname": "a b"}},
         "c": {"attributes": {}},
@@ -579,6 +616,10 @@ def test_hierarchy(checks: Checks) -> None:
         [given[name] for name in ["a.b", "u.f.j", "k.l.m", "k.l.g.n"]],
     )
     checks.wants("no paths", set(), {"c", "d", "e"} & given.keys())
+
+
+def test_widths(checks: Checks) -> None:
+    """How many bits a wire has."""
     widths = [
         modules.width_of(Statement("wire", text))
         for text in ["\\a", "width 3 \\a", "input 1 \\width", "width 3 offset 2 input 1 \\a"]
@@ -587,7 +628,7 @@ def test_hierarchy(checks: Checks) -> None:
 
 
 @pytest.mark.parametrize("part, widths, wanted", FREED)
-def test_opened(checks: Checks, part: str, widths: list[int], wanted: str) -> None:
+def test_free_unknowns(checks: Checks, part: str, widths: list[int], wanted: str) -> None:
     """What isn't driven, or is x, becomes a wire of its own, which may have any value."""
     wires = "".join(f"  wire width {width} $free${i}\n" for i, width in enumerate(widths, 1))
     head = HEAD.lstrip().replace("module \\top\n", f"module \\top\n{wires}")
@@ -595,7 +636,7 @@ def test_opened(checks: Checks, part: str, widths: list[int], wanted: str) -> No
 
 
 @pytest.mark.parametrize("part", STAYS)
-def test_opened_stays(checks: Checks, part: str) -> None:
+def test_free_unknowns_stays(checks: Checks, part: str) -> None:
     """What stays as it is."""
     checks.wants(part, f"{HEAD.lstrip()}{part}end\n", changed(free_unknowns, f"{HEAD}{part}end\n"))
 
@@ -850,48 +891,57 @@ def test_names(checks: Checks) -> None:
     checks.wants("outputs", [4], netlist.outputs(cell("$not", A=[2], Y=[4])))
 
 
-def test_stored(checks: Checks) -> None:
+# A choice of what a register holds or its reset, nets, and cells with the names of what is stored.
+RESET = cell("$mux", A=[7], B=["0"], S=[2], Y=[8])
+STORING = {"$7": net(7, hidden=1), "q": net(8), "r": net(2)}
+STORED = [
+    ("a register", STORING, [cell("$ff", D=[3], Q=[7]), RESET], [("$7", "q.stored")]),
+    (
+        "the other side",
+        STORING,
+        [
+            cell("$ff", D=[3], Q=[7]),
+            {**RESET, "connections": {"A": ["0"], "B": [7], "S": [2], "Y": [8]}},
+        ],
+        [("$7", "q.stored")],
+    ),
+    ("no register", STORING, [cell("$not", A=[3], Y=[7]), RESET], []),
+    ("no choice", STORING, [cell("$ff", D=[3], Q=[7]), {**RESET, "type": "$and"}], []),
+    ("a name", {**STORING, "s": net(7)}, [cell("$ff", D=[3], Q=[7]), RESET], []),
+    ("another one", {**STORING, "q.stored": net(9)}, [cell("$ff", D=[3], Q=[7]), RESET], []),
+    (
+        "a bit",
+        {"$7": net(7, hidden=1), "w": net(9, 8)},
+        [cell("$ff", D=[3], Q=[7]), RESET],
+        [("$7", "w.stored[1]")],
+    ),
+    (
+        "a hidden name",
+        {"$7": net(7, hidden=1), "$8": net(8, hidden=1)},
+        [cell("$ff", D=[3], Q=[7]), RESET],
+        [],
+    ),
+    ("two", STORING, [cell("$ff", D=[3], Q=[7]), RESET, RESET], [("$7", "q.stored")]),
+    (
+        "the outermost",
+        {**STORING, "u.q": net(8), "v": net(7, hidden=1)},
+        [cell("$ff", D=[3], Q=[7]), RESET],
+        [("v", "q.stored")],
+    ),
+]
+
+
+@pytest.mark.parametrize("what, nets, cells, wanted", STORED)
+def test_stored(
+    checks: Checks,
+    what: str,
+    nets: dict[str, Any],
+    cells: list[dict[str, Any]],
+    wanted: list[tuple[str, str]],
+) -> None:
     """What registers with an asynchronous reset hold, whose names have their values with the
     reset."""
-    reset = cell("$mux", A=[7], B=["0"], S=[2], Y=[8])
-    nets = {"$7": net(7, hidden=1), "q": net(8), "r": net(2)}
-    rows = [
-        ("a register", nets, [cell("$ff", D=[3], Q=[7]), reset], [("$7", "q.stored")]),
-        (
-            "the other side",
-            nets,
-            [
-                cell("$ff", D=[3], Q=[7]),
-                {**reset, "connections": {"A": ["0"], "B": [7], "S": [2], "Y": [8]}},
-            ],
-            [("$7", "q.stored")],
-        ),
-        ("no register", nets, [cell("$not", A=[3], Y=[7]), reset], []),
-        ("no choice", nets, [cell("$ff", D=[3], Q=[7]), {**reset, "type": "$and"}], []),
-        ("a name", {**nets, "s": net(7)}, [cell("$ff", D=[3], Q=[7]), reset], []),
-        ("another one", {**nets, "q.stored": net(9)}, [cell("$ff", D=[3], Q=[7]), reset], []),
-        (
-            "a bit",
-            {"$7": net(7, hidden=1), "w": net(9, 8)},
-            [cell("$ff", D=[3], Q=[7]), reset],
-            [("$7", "w.stored[1]")],
-        ),
-        (
-            "a hidden name",
-            {"$7": net(7, hidden=1), "$8": net(8, hidden=1)},
-            [cell("$ff", D=[3], Q=[7]), reset],
-            [],
-        ),
-        ("two", nets, [cell("$ff", D=[3], Q=[7]), reset, reset], [("$7", "q.stored")]),
-        (
-            "the outermost",
-            {**nets, "u.q": net(8), "v": net(7, hidden=1)},
-            [cell("$ff", D=[3], Q=[7]), reset],
-            [("v", "q.stored")],
-        ),
-    ]
-    for what, own, cells, wanted in rows:
-        checks.wants(what, wanted, list(netlist.stored(module(own, cells))))
+    checks.wants(what, wanted, list(netlist.stored(module(nets, cells))))
 
 
 # How yosys calls what an expression in line 2 of a file computes, in an instance.
@@ -922,112 +972,122 @@ def test_internal(checks: Checks) -> None:
         checks.wants(said, wanted, without_internal(said))
 
 
-def test_netlists(checks: Checks) -> None:
-    """Netlists in JSON."""
-    nets = {
-        "a": net(2),
-        "b": net(3),
-        "y": net(4),
-        "clk": net(5),
-        "q": net(6),
-        PLACED: net(7, hidden=1),
-        "$procmux$1_Y": net(8, hidden=1),
-    }
-    read = cell("$assert", A=[4])
-    drivers = [
-        ([cell("$not", A=[2], Y=[4]), read], None),
-        (
-            [cell("$not", A=[2], Y=[4]), cell("$not", A=[3], Y=[4]), read],
-            "top: y has several drivers",
-        ),
-        ([cell("$not", A=[2], Y=["0"])], "top: a constant has several drivers"),
-        ([cell("$not", A=["z"], Y=[4])], "top: y can be z; tri-state nets are not supported"),
-        ([cell("$not", A=[3], Y=[2]), cell("$not", A=[2], Y=[4])], "top: a has several drivers"),
-    ]
-    drivers += [
-        ([cell("$eqx", A=["z"], B=[3], Y=[4]), read], None),
-        ([cell("$nex", A=["z"], B=[3], Y=[4]), read], None),
-        (
-            [
-                cell("$eqx", A=[2], Y=[4]),
-                cell("$eqx", A=[3], Y=[4]),
-                cell("$nex", A=[3], Y=[4]),
-                read,
-            ],
-            None,
-        ),
-        (
-            [{**cell("$assert", A=["z"]), "port_directions": {"A": "input"}}],
-            "top: a constant can be z; tri-state nets are not supported",
-        ),
-        # Names that yosys made: one with a place, one on which y depends, and one on which nothing
-        # does that the design names.
-        (
-            [cell("$not", A=[2], Y=[7]), cell("$not", A=[3], Y=[7]), cell("$assert", A=[7])],
-            f"top: {PLACED} has several drivers",
-        ),
-        (
-            [
-                cell("$not", A=[2], Y=[8]),
-                cell("$not", A=[3], Y=[8]),
-                cell("$not", A=[8], Y=[7]),
-                cell("$not", A=[7], Y=[4]),
-                read,
-            ],
-            "top: what y depends on has several drivers",
-        ),
-        (
-            [
-                cell("$not", A=[2], Y=[8]),
-                cell("$not", A=[3], Y=[8]),
-                cell("$not", A=[8], Y=[7]),
-                cell("$assert", A=[7]),
-            ],
-            "top: a net without a name has several drivers",
-        ),
-        # What nothing reads but the cell that drives it may be the variable of loops.
-        ([cell("$not", A=[2], Y=[4]), cell("$not", A=[3], Y=[4])], None),
-        (
-            [cell("$not", A=[2], Y=[4]), cell("$not", A=[4], Y=[7]), cell("$not", A=[3], Y=[4])],
-            None,
-        ),
-        (
-            [
-                cell("$not", A=[2], Y=[4]),
-                cell("$not", A=[4], Y=[7]),
-                cell("$not", A=[3], Y=[4]),
-                cell("$assert", A=[7]),
-            ],
-            "top: y has several drivers",
-        ),
-        # Two registers that nothing reads but what they take next, as the variable of loops in two
-        # blocks; and one of them read.
-        (
-            [
-                cell("$mux", A=[4], S=[2], Y=[7]),
-                cell("$dff", D=[7], Q=[4]),
-                cell("$mux", A=[4], S=[3], Y=[8]),
-                cell("$dff", D=[8], Q=[4]),
-            ],
-            None,
-        ),
-        (
-            [
-                cell("$mux", A=[4], S=[2], Y=[7]),
-                cell("$dff", D=[7], Q=[4]),
-                cell("$dff", D=[3], Q=[4]),
-                cell("$dff", D=[7], Q=[9]),
-                cell("$assert", A=[9]),
-            ],
-            "top: y has several drivers",
-        ),
-    ]
+# The nets of the modules below.
+NETS = {
+    "a": net(2),
+    "b": net(3),
+    "y": net(4),
+    "clk": net(5),
+    "q": net(6),
+    PLACED: net(7, hidden=1),
+    "$procmux$1_Y": net(8, hidden=1),
+}
+READ = cell("$assert", A=[4])
+# Cells, and why a module with them is refused.
+DRIVERS = [
+    ([cell("$not", A=[2], Y=[4]), READ], None),
+    (
+        [cell("$not", A=[2], Y=[4]), cell("$not", A=[3], Y=[4]), READ],
+        "top: y has several drivers",
+    ),
+    ([cell("$not", A=[2], Y=["0"])], "top: a constant has several drivers"),
+    ([cell("$not", A=["z"], Y=[4])], "top: y can be z; tri-state nets are not supported"),
+    ([cell("$not", A=[3], Y=[2]), cell("$not", A=[2], Y=[4])], "top: a has several drivers"),
+    ([cell("$eqx", A=["z"], B=[3], Y=[4]), READ], None),
+    ([cell("$nex", A=["z"], B=[3], Y=[4]), READ], None),
+    (
+        [
+            cell("$eqx", A=[2], Y=[4]),
+            cell("$eqx", A=[3], Y=[4]),
+            cell("$nex", A=[3], Y=[4]),
+            READ,
+        ],
+        None,
+    ),
+    (
+        [{**cell("$assert", A=["z"]), "port_directions": {"A": "input"}}],
+        "top: a constant can be z; tri-state nets are not supported",
+    ),
+    # Names that yosys made: one with a place, one on which y depends, and one on which nothing
+    # does that the design names.
+    (
+        [cell("$not", A=[2], Y=[7]), cell("$not", A=[3], Y=[7]), cell("$assert", A=[7])],
+        f"top: {PLACED} has several drivers",
+    ),
+    (
+        [
+            cell("$not", A=[2], Y=[8]),
+            cell("$not", A=[3], Y=[8]),
+            cell("$not", A=[8], Y=[7]),
+            cell("$not", A=[7], Y=[4]),
+            READ,
+        ],
+        "top: what y depends on has several drivers",
+    ),
+    (
+        [
+            cell("$not", A=[2], Y=[8]),
+            cell("$not", A=[3], Y=[8]),
+            cell("$not", A=[8], Y=[7]),
+            cell("$assert", A=[7]),
+        ],
+        "top: a net without a name has several drivers",
+    ),
+    # What nothing reads but the cell that drives it may be the variable of loops.
+    ([cell("$not", A=[2], Y=[4]), cell("$not", A=[3], Y=[4])], None),
+    (
+        [cell("$not", A=[2], Y=[4]), cell("$not", A=[4], Y=[7]), cell("$not", A=[3], Y=[4])],
+        None,
+    ),
+    (
+        [
+            cell("$not", A=[2], Y=[4]),
+            cell("$not", A=[4], Y=[7]),
+            cell("$not", A=[3], Y=[4]),
+            cell("$assert", A=[7]),
+        ],
+        "top: y has several drivers",
+    ),
+    # Two registers that nothing reads but what they take next, as the variable of loops in TWO
+    # blocks; and one of them read.
+    (
+        [
+            cell("$mux", A=[4], S=[2], Y=[7]),
+            cell("$dff", D=[7], Q=[4]),
+            cell("$mux", A=[4], S=[3], Y=[8]),
+            cell("$dff", D=[8], Q=[4]),
+        ],
+        None,
+    ),
+    (
+        [
+            cell("$mux", A=[4], S=[2], Y=[7]),
+            cell("$dff", D=[7], Q=[4]),
+            cell("$dff", D=[3], Q=[4]),
+            cell("$dff", D=[7], Q=[9]),
+            cell("$assert", A=[9]),
+        ],
+        "top: y has several drivers",
+    ),
+]
+
+
+@pytest.mark.parametrize("cells, wanted", DRIVERS)
+def test_drivers(checks: Checks, cells: list[dict[str, Any]], wanted: str | None) -> None:
+    """A net has one driver, which isn't z."""
+    checks.wants(
+        cells, wanted, is_refused(netlist.check_drivers, "top", module(NETS, cells, ["a", "b"]))
+    )
+
+
+def test_needed(checks: Checks) -> None:
+    """What assertions depend on."""
     checks.wants(
         "what is needed",
         {2, 4, 7, 9},
         netlist.needed(
             module(
-                nets,
+                NETS,
                 [
                     cell("$mux", A=[4], S=[2], Y=[7]),
                     cell("$dff", D=[7], Q=[4]),
@@ -1037,14 +1097,18 @@ def test_netlists(checks: Checks) -> None:
             )
         ),
     )
-    z = {**nets, "t": net(8, "z")}
+
+
+def test_drivers_of_outputs(checks: Checks) -> None:
+    """A net of a module's own, and an output, have one driver, too."""
+    z = {**NETS, "t": net(8, "z")}
     checks.wants(
         "a net",
         "top: t can be z; tri-state nets are not supported",
         is_refused(netlist.check_drivers, "top", module(z, [], ["a"])),
     )
     output = {
-        **module(nets, [cell("$not", A=[2], Y=[4]), cell("$not", A=[3], Y=[4])]),
+        **module(NETS, [cell("$not", A=[2], Y=[4]), cell("$not", A=[3], Y=[4])]),
         "ports": {"y": {"direction": "output", "bits": [4]}},
     }
     checks.wants(
@@ -1056,70 +1120,93 @@ def test_netlists(checks: Checks) -> None:
     checks.wants(
         "an output without a driver", None, is_refused(netlist.check_drivers, "top", output)
     )
-    for cells, wanted in drivers:
-        checks.wants(
-            cells, wanted, is_refused(netlist.check_drivers, "top", module(nets, cells, ["a", "b"]))
-        )
-    two = [cell("$and", A=[2], B=[4], Y=[6]), cell("$or", A=[3], B=[6], Y=[4])]
-    loops = [
-        ([], []),
-        (two, ["q", "y"]),
-        (two[:1], []),
-        ([cell("$not", A=[4], Y=[4])], ["y"]),
-        ([cell("$not", A=[9], Y=[9])], []),
-        ([two[0], cell("$mux", A=[2], S=[3], B=[6], Y=[6])], ["q"]),
-        ([cell("$not", A=[2], Y=[4]), cell("$not", A=[4], Y=[6])], []),
-    ]
-    loops += [
-        ([two[0], cell(kind, D=[6], Q=[4])], [])
-        for kind in ["$dff", "$adffe", "$ff", "$_DFF_P_", "$dlatch", "$sr", "$_SR_PP_", "$anyinit"]
-    ]
-    loops += [([two[0], {**cell("$mem_v2", RD_ADDR=[6], Y=[4])}], [])]
-    for cells, wanted in loops:
-        checks.wants(
-            cells,
-            wanted,
-            netlist.loop_in(module({**nets, "$9": net(9, hidden=1)}, cells, ["a", "b"])),
-        )
-    register = cell("$dff", CLK=[5], D=[2], Q=[6])
-    falling = {**register, "parameters": {"CLK_POLARITY": "0"}}
-    clocks = [
-        ([], None),
-        ([register], ("clk", True)),
-        ([falling], ("clk", False)),
-        ([register, falling], "several clocks"),
-        ([register, cell("$not", A=[5], Y=[4])], "reads its clock clk"),
-        (
-            [cell("$dff", CLK=[4], D=[2], Q=[6])],
-            f"top generates its clock itself; the clock has to be an input: y ({MULTICLOCK})",
-        ),
-        ([cell("$dff", CLK=[7], D=[2], Q=[6])], f"has to be an input: {PLACED} ("),
-        ([cell("$dff", CLK=[8], D=[2], Q=[6])], "has to be an input: what q depends on ("),
-        (
-            [cell("$dff", CLK=[7], D=[2], Q=[6]), register],
-            f"top has several clocks, and one is taken: {PLACED} (rising) and clk (rising)",
-        ),
-    ]
-    both = "clk (falling) and clk (rising)"
-    many = f"top has several clocks, and one is taken: {both} ({MULTICLOCK})"
+
+
+TWO = [cell("$and", A=[2], B=[4], Y=[6]), cell("$or", A=[3], B=[6], Y=[4])]
+# Cells, and the nets of a loop of theirs.
+LOOPS = [
+    ([], []),
+    (TWO, ["q", "y"]),
+    (TWO[:1], []),
+    ([cell("$not", A=[4], Y=[4])], ["y"]),
+    ([cell("$not", A=[9], Y=[9])], []),
+    ([TWO[0], cell("$mux", A=[2], S=[3], B=[6], Y=[6])], ["q"]),
+    ([cell("$not", A=[2], Y=[4]), cell("$not", A=[4], Y=[6])], []),
+]
+LOOPS += [
+    ([TWO[0], cell(kind, D=[6], Q=[4])], [])
+    for kind in ["$dff", "$adffe", "$ff", "$_DFF_P_", "$dlatch", "$sr", "$_SR_PP_", "$anyinit"]
+]
+LOOPS += [([TWO[0], {**cell("$mem_v2", RD_ADDR=[6], Y=[4])}], [])]
+
+
+@pytest.mark.parametrize("cells, wanted", LOOPS)
+def test_loops(checks: Checks, cells: list[dict[str, Any]], wanted: list[str]) -> None:
+    """A loop is found unless a register or a memory is in it."""
+    own = module({**NETS, "$9": net(9, hidden=1)}, cells, ["a", "b"])
+    checks.wants(cells, wanted, netlist.loop_in(own))
+
+
+REGISTER = cell("$dff", CLK=[5], D=[2], Q=[6])
+FALLING = {**REGISTER, "parameters": {"CLK_POLARITY": "0"}}
+# Cells, and the clock that they have, or a part of why it isn't taken.
+CLOCKS: list[tuple[list[dict[str, Any]], Any]] = [
+    ([], None),
+    ([REGISTER], ("clk", True)),
+    ([FALLING], ("clk", False)),
+    ([REGISTER, FALLING], "several clocks"),
+    ([REGISTER, cell("$not", A=[5], Y=[4])], "reads its clock clk"),
+    (
+        [cell("$dff", CLK=[4], D=[2], Q=[6])],
+        f"top generates its clock itself; the clock has to be an input: y ({MULTICLOCK})",
+    ),
+    ([cell("$dff", CLK=[7], D=[2], Q=[6])], f"has to be an input: {PLACED} ("),
+    ([cell("$dff", CLK=[8], D=[2], Q=[6])], "has to be an input: what q depends on ("),
+    (
+        [cell("$dff", CLK=[7], D=[2], Q=[6]), REGISTER],
+        f"top has several clocks, and one is taken: {PLACED} (rising) and clk (rising)",
+    ),
+    ([REGISTER, cell("$dff", CLK=[5], D=[6], Q=[5])], ("clk", True)),
+]
+BOTH_EDGES = (
+    "top has several clocks, and one is taken: clk (falling) and clk (rising) (--multiclock"
+    " takes any, and a step is then a moment in which inputs and clocks may change)"
+)
+
+
+@pytest.mark.parametrize("cells, wanted", CLOCKS)
+def test_clock(checks: Checks, cells: list[dict[str, Any]], wanted: Any) -> None:
+    """All registers have one clock, which is an input and which nothing else reads."""
+    own = module(NETS, cells, ["clk"])
+    given = is_refused(netlist.clock_of, "top", own)
+    is_same = wanted in given if given else netlist.clock_of("top", own) == wanted
+    checks.check(is_same, f"the clock of {cells} is {wanted}, and {given}")
+
+
+@pytest.mark.parametrize("port", ["RD_CLK", "WR_CLK"])
+def test_clock_of_memory(checks: Checks, port: str) -> None:
+    """The clock of a memory's port, which rises where nothing else is said."""
+    memory = {
+        **cell("$mem_v2", **{port: [5]}),
+        "port_directions": {port: "input"},
+        "parameters": {f"{port}_POLARITY": "0001"},
+    }
+    checks.wants(port, ("clk", True), netlist.clock_of("top", module(NETS, [memory], ["clk"])))
+    memory["parameters"] = {}
+    checks.wants(
+        f"{port} by default",
+        ("clk", True),
+        netlist.clock_of("top", module(NETS, [memory], ["clk"])),
+    )
+
+
+def test_refused_clocks(checks: Checks) -> None:
+    """Both edges of a clock, a constant, and a name that yosys can't read."""
     checks.wants(
         "both edges",
-        many,
-        is_refused(netlist.clock_of, "top", module(nets, [register, falling], ["clk"])),
+        BOTH_EDGES,
+        is_refused(netlist.clock_of, "top", module(NETS, [REGISTER, FALLING], ["clk"])),
     )
-    for port in "RD_CLK", "WR_CLK":
-        memory = {
-            **cell("$mem_v2", **{port: [5]}),
-            "port_directions": {port: "input"},
-            "parameters": {f"{port}_POLARITY": "0001"},
-        }
-        checks.wants(port, ("clk", True), netlist.clock_of("top", module(nets, [memory], ["clk"])))
-        memory["parameters"] = {}
-        checks.wants(
-            f"{port} by default",
-            ("clk", True),
-            netlist.clock_of("top", module(nets, [memory], ["clk"])),
-        )
     checks.wants(
         "a constant",
         "top generates its clock itself; the clock has to be an input: a constant",
@@ -1128,7 +1215,7 @@ def test_netlists(checks: Checks) -> None:
                 netlist.clock_of,
                 "top",
                 module(
-                    nets, [{**register, "connections": {"CLK": ["0"], "D": [2], "Q": [6]}}], ["clk"]
+                    NETS, [{**REGISTER, "connections": {"CLK": ["0"], "D": [2], "Q": [6]}}], ["clk"]
                 ),
             )
         ).partition(" (")[0],
@@ -1137,17 +1224,12 @@ def test_netlists(checks: Checks) -> None:
     checks.wants(
         "an odd name",
         "top has the clock a;, and in a script of yosys a name can't end so",
-        is_refused(netlist.clock_of, "top", module(odd, [register], ["a;"])),
+        is_refused(netlist.clock_of, "top", module(odd, [REGISTER], ["a;"])),
     )
-    clocks += [([register, cell("$dff", CLK=[5], D=[6], Q=[5])], ("clk", True))]
-    for cells, wanted in clocks:
-        given = is_refused(netlist.clock_of, "top", module(nets, cells, ["clk"]))
-        same = (
-            wanted in given
-            if given
-            else netlist.clock_of("top", module(nets, cells, ["clk"])) == wanted
-        )
-        checks.check(same, f"the clock of {cells} is {wanted}, and {given}")
+
+
+def test_free_names(checks: Checks) -> None:
+    """Names of free values are the design's."""
     free = {
         "d": net(8, 9),
         "d$[2:0]": net(8, 9),
@@ -1160,6 +1242,16 @@ def test_netlists(checks: Checks) -> None:
     }
     given = dict(netlist.free_names(module(free, [], ["d$[2:0]", "e$[4:3]", "$1", "$2", "g$[2:0"])))
     checks.wants("free values", {"d$[2:0]": "d[1:0]", "$1": "x1", "$2": "x2"}, given)
+    given = dict(
+        netlist.free_names(
+            module({"$1": net(1, hidden=1), "d$[2:0]e": net(2)}, [], ["$1", "d$[2:0]e"])
+        )
+    )
+    checks.wants("the first", {"$1": "x0"}, given)
+
+
+def test_stored_names(checks: Checks) -> None:
+    """Names of what a register with an asynchronous reset stores."""
     checks.wants(
         "what is stored", ["q.stored", "q.stored[3]"], list(map(netlist.stored_name, ["q", "q[3]"]))
     )
@@ -1176,27 +1268,27 @@ def test_netlists(checks: Checks) -> None:
             netlist.all_names("r[3]", {"q": ["r"]}),
         ),
     )
-    given = dict(
-        netlist.free_names(
-            module({"$1": net(1, hidden=1), "d$[2:0]e": net(2)}, [], ["$1", "d$[2:0]e"])
-        )
-    )
-    checks.wants("the first", {"$1": "x0"}, given)
     checks.wants("a pattern", "u\\.q\\[3\\]", netlist.pattern_of("u.q[3]"))
 
 
-def test_orders(checks: Checks) -> None:
-    """The order of properties, and names of assertions without a label."""
-    inner = [
+@pytest.mark.parametrize(
+    "name, is_named, path",
+    [
         ("$flatten\\u.\\v.$assert$t.v:1$2", False, "u.v"),
         ("$flatten\\g[0].\\odd.l.$live$t.v:1$2", False, "g[0].odd.l"),
         ("l", True, "l"),
         ("$assert$t.v:1$2", False, ""),
         ("$flatten\\?u.$assert$t.v:1$2", False, "?u"),
         ("$flatten\\u.$assert$t.v:1$2", True, "$flatten\\u.$assert$t.v:1$2"),
-    ]
-    for name, is_named, path in inner:
-        checks.wants(name, path, Assertion(name, "", is_named).path)
+    ],
+)
+def test_paths_of_assertions(checks: Checks, name: str, is_named: bool, path: str) -> None:
+    """Names of assertions without a label."""
+    checks.wants(name, path, Assertion(name, "", is_named).path)
+
+
+def test_orders(checks: Checks) -> None:
+    """The order of properties."""
     given = [
         ("b", "b.v:1.1-1.2"),
         ("g[10]", "a.v:9.3-9.4"),
@@ -1215,6 +1307,10 @@ def test_orders(checks: Checks) -> None:
         ["f", "g[9]", "g[10]", "d", "c", "i", "i0", "b", "h", "e"],
         [given[i][0] for i in order],
     )
+
+
+def test_ordered(checks: Checks) -> None:
+    """A file whose properties are put in an order."""
     # A latch and an output, then three bad states and a constraint, or two justice properties and a
     # fairness constraint, and a gate.
     bads = b"aig 3 1 1 1 1 3 1\n4 1\n2\n4\n5\n6\n7\n\x02\x02i0 a\nc\n4\n"

@@ -7,6 +7,7 @@ design; and each text that isn't known is refused, by its line. What such design
 a simulator by test_twins.py."""
 from __future__ import annotations
 
+import pytest
 from faults import is_refused as refused
 from harness import Checks
 
@@ -538,6 +539,9 @@ def test_texts(checks: Checks) -> None:
         b"translate_on" not in unread(whole) and Text(unread(whole)).words != Text(whole).words,
         "a comment goes on",
     )
+    off = b"/* synthesis translate_off */"
+    checks.wants("another word", off + b"translate_it", unread(b"translate_it"))
+    checks.wants("its own comment", b"translate-it" + off, read_again(off + b"translate-it" + off))
 
 
 def test_generated(checks: Checks) -> None:
@@ -553,64 +557,66 @@ def test_generated(checks: Checks) -> None:
         for old, cell in zip(AT, [cell for cell in module.of("cell") if cell.type != "$logic_or"])
     }
     checks.wants("names", AT, again)
-    for cells, wanted in [
-        ("$a1 $a1", True),
-        ("$a1", False),
-        ("$a1 \\l", False),
-        ("\\l \\m", False),
-    ]:
-        text = "".join(
-            f'  attribute \\src "t.v:1.1-2.2"\n  cell $assert {cell}{i if cell[0] == "$" else ""}\n'
-            "  end\n"
-            for i, cell in enumerate(cells.split())
-        )
-        checks.wants(
-            cells,
-            wanted,
-            are_alike(
-                parse(
-                    f"module \\top\n{text}end\nmodule"
-                    f" \\other\n{text if len(cells) < 6 else ''}end\n"
-                )
-            ),
-        )
 
 
-def test_lists(checks: Checks) -> None:
+@pytest.mark.parametrize("kind", ["$assert", "$assume", "$cover", "$live", "$fair"])
+@pytest.mark.parametrize(
+    "cells, wanted",
+    [("$a1 $a1", True), ("$a1", False), ("$a1 \\l", False), ("\\l \\m", False)],
+)
+def test_alike(checks: Checks, kind: str, cells: str, wanted: bool) -> None:
+    """Whether several assertions of a module have one place, and no names."""
+    names = [f"{cell}{i}" if cell[0] == "$" else cell for i, cell in enumerate(cells.split())]
+    text = "".join(
+        f'  attribute \\src "t.v:1.1-2.2"\n  cell {kind} {name}\n  end\n' for name in names
+    )
+    other = text if len(cells) < 6 else ""
+    design = parse(f"module \\top\n{text}end\nmodule \\other\n{other}end\n")
+    checks.wants(cells, wanted, are_alike(design))
+
+
+# The nets of modules, and blocks with what they read and don't wait for.
+READ_NETS = {"m": {"a", "b", "y", "q", "clk"}, "n": {"a", "c"}}
+LISTS = [
+    ("always @(a) y = a & b;", "b"),
+    ("always @(a or b) y = a & b;", None),
+    ("always @(a, b[1:0]) y = a & b;", None),
+    ("always @* y = a & b;", None),
+    ("always @(*) y = a & b;", None),
+    ("always @(posedge clk) y = a & b;", None),
+    ("always @(negedge clk or posedge a) y = b;", None),
+    ("always @(a) begin q = a; y = q; end", None),
+    ("always @(a) if (a <= b) y = 1; else y[0] <= q;", "b, q"),
+    ("always @(a) begin : k if (a == b) y = 1; end", "b"),
+    ("always @( a\n or q ) case (a) b: y = P; default: y = f(q); endcase", "b"),
+    ("always @(a) y = m.b + `b + 2'b0 + \\b + a.b;", None),
+    ("wire w; // always @(a) y = b;\n", None),
+    ("always @(a) y = c;", None),
+    ("always @(a) y = a ? 1 : b == 1;", "b"),
+    ("always @(aq) y = 1;", None),
+]
+
+
+@pytest.mark.parametrize("text, names", LISTS)
+def test_lists(checks: Checks, text: str, names: str | None) -> None:
     """Blocks that don't wait for all that they read."""
-    nets = {"m": {"a", "b", "y", "q", "clk"}, "n": {"a", "c"}}
-    rows = [
-        ("always @(a) y = a & b;", "b"),
-        ("always @(a or b) y = a & b;", None),
-        ("always @(a, b[1:0]) y = a & b;", None),
-        ("always @* y = a & b;", None),
-        ("always @(*) y = a & b;", None),
-        ("always @(posedge clk) y = a & b;", None),
-        ("always @(negedge clk or posedge a) y = b;", None),
-        ("always @(a) begin q = a; y = q; end", None),
-        ("always @(a) if (a <= b) y = 1; else y[0] <= q;", "b, q"),
-        ("always @(a) begin : k if (a == b) y = 1; end", "b"),
-        ("always @( a\n or q ) case (a) b: y = P; default: y = f(q); endcase", "b"),
-        ("always @(a) y = m.b + `b + 2'b0 + \\b + a.b;", None),
-        ("wire w; // always @(a) y = b;\n", None),
-        ("always @(a) y = c;", None),
-        ("always @(a) y = a ? 1 : b == 1;", "b"),
-        ("always @(aq) y = 1;", None),
-    ]
-    for text, names in rows:
-        whole = (
-            f"module o; endmodule\nmodule m(input a); {text} endmodule\nmodule n; always @(a) c ="
-            " b; endmodule\n"
-        )
-        given = list(lacking(Text(whole.encode()), nets))
-        listed = " ".join(text.partition("(")[2].partition(")")[0].split())
-        said = (
-            f"always @({listed}) doesn't wait for {names}, which the block reads: yosys takes it"
-            " for always @*"
-        )
-        checks.wants(
-            text, [(whole.index("always", whole.index("module m")), said)] if names else [], given
-        )
+    whole = (
+        f"module o; endmodule\nmodule m(input a); {text} endmodule\nmodule n; always @(a) c ="
+        " b; endmodule\n"
+    )
+    given = list(lacking(Text(whole.encode()), READ_NETS))
+    listed = " ".join(text.partition("(")[2].partition(")")[0].split())
+    said = (
+        f"always @({listed}) doesn't wait for {names}, which the block reads: yosys takes it"
+        " for always @*"
+    )
+    checks.wants(
+        text, [(whole.index("always", whole.index("module m")), said)] if names else [], given
+    )
+
+
+def test_lists_of_modules(checks: Checks) -> None:
+    """Blocks in modules of one name, and in none."""
     inner = (
         b"module n; endmodule module m; always @(a) y = 1; endmodule module n; always @(a) q = c;"
         b" endmodule always @(a) q = c;"
@@ -618,5 +624,5 @@ def test_lists(checks: Checks) -> None:
     checks.wants(
         "modules",
         [inner.index(b"always", inner.rindex(b"module n"))],
-        [place for place, _ in lacking(Text(inner), nets)],
+        [place for place, _ in lacking(Text(inner), READ_NETS)],
     )

@@ -24,7 +24,7 @@ from hypothesis import given
 from strategies import cases, choices
 
 from aigprove.designs.registers import FINE, widened
-from aigprove.designs.rtlil import Part, Statement, parse, write
+from aigprove.designs.rtlil import Part, Statement, constant, parse, write
 
 # A line in a module, what it is, its name, and its signals.
 LINES = [
@@ -59,6 +59,14 @@ SIGNALS = [
     ("{ }", [[]]),
     ("[3 \\a", [[Part("[3")], [Part("\\a")]]),
     ("2'01 , 2'1x , \\a", [[Part("", "01")], [Part("", "1x")], [Part("\\a")]]),
+]
+# Those of these words that have one spelling.
+SPELLED = ["\\a \\b", "\\a [3] \\b [4:2]", "{ \\a [1] 2'01 \\b } \\c", "{ }"]
+# Signals, and the bits of those that are constants.
+CONSTANTS = [
+    ([Part("", "01"), Part("", "x")], "01x"),
+    ([Part("", "01"), Part("\\a")], ""),
+    ([Part("\\a")], ""),
 ]
 # A process, in which each kind of statement is in another, by their depths.
 PROCESS = """module \\top
@@ -163,6 +171,20 @@ def test_line(checks: Checks, line: str, kind: str, name: str | None) -> None:
 def test_signals(words: str, wanted: list[list[Part]]) -> None:
     """The words of a statement are signals."""
     assert Statement("connect", words).signals() == wanted
+
+
+@pytest.mark.parametrize("words, signals", [row for row in SIGNALS if row[0] in SPELLED])
+def test_spelled(words: str, signals: list[list[Part]]) -> None:
+    """Signals become the words of a statement."""
+    it = Statement("connect")
+    it.put(signals)
+    assert it.text == words
+
+
+@pytest.mark.parametrize("signal, bits", CONSTANTS)
+def test_constant(signal: list[Part], bits: str) -> None:
+    """A signal that is constants alone has bits."""
+    assert constant(signal) == bits
 
 
 @pytest.mark.parametrize("text, why", REFUSED)

@@ -229,6 +229,11 @@ def test_deadlines(checks: Checks, four_jobs: scheduler.Scheduler) -> None:
             f"{name}: {'given up' if is_given_up else 'ended'} after {seconds:.2f} s",
         )
     lasting.set()
+
+
+def test_limits_in_limits(checks: Checks, four_jobs: scheduler.Scheduler) -> None:
+    """A limit of time is of what is in it alone, and what is short is ended first."""
+    task = Scope(four_jobs).task("main")
     with limited(time.monotonic() + 0.2):
         status = task.output(["true"])[0]
     # The timer ended with what it limits.
@@ -248,6 +253,10 @@ def test_deadlines(checks: Checks, four_jobs: scheduler.Scheduler) -> None:
         ended.append("given up")
     checks.wants("what may be ended", ["what is short", "given up"], ended)
     checks.wants("in time", (0, "here\n"), (status, printed))
+
+
+def test_for_each(checks: Checks) -> None:
+    """Calls side by side give what each returns, and a fault of one."""
     checks.wants("each", [1, 4, 9], scheduler.for_each([1, 2, 3], 2, lambda it: it * it))
     given: list[object] = []
 

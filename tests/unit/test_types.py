@@ -20,7 +20,8 @@ oracles/test_stepwise oracles/test_subjects prove/test_promises prove/test_width
 rows/test_calling rows/test_completion rows/test_drop_in rows/test_first_commands rows/test_memory
 rows/test_outs rows/test_packages rows/test_process rows/test_release rows/test_repeats
 rows/test_scripts rows/test_told rows/test_viewer rows/test_waves support/fresh_root
-unit/test_messages unit/test_reasons unit/test_scheduling unit/test_types""".split()
+unit/test_messages unit/test_reasons unit/test_scheduling unit/test_strategies
+unit/test_types""".split()
 REFERENCE = sorted(map(str, (SUPPORT / "reference").glob("*.py")))
 # The modules whose types fit, by the folder that they are read in.
 TYPED = {
