@@ -403,7 +403,7 @@ public:
   Result<Edge> trivial_new_and_node(Signal a, Signal b) noexcept { return gate(aig_circuit_trivial_new_and_node, a, b); }
   /* Returns the and of two edges. If one edge is constant, or both have the same node, no gate is added. */
   Result<Edge> new_and_node(Signal a, Signal b) noexcept { return gate(aig_circuit_new_and_node, a, b); }
-  /* Adds a gate for the or of two edges. The returned edge is the inverse of a gate for the and of their inverses. */
+  /* Adds a gate for the and of the inverses of two edges, and returns the inverse of this gate, which is the or of the two edges. */
   Result<Edge> trivial_new_or_node(Signal a, Signal b) noexcept { return gate(aig_circuit_trivial_new_or_node, a, b); }
   /* Returns the or of two edges, which is the inverse of `new_and_node` of their inverses. */
   Result<Edge> new_or_node(Signal a, Signal b) noexcept { return gate(aig_circuit_new_or_node, a, b); }

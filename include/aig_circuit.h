@@ -143,7 +143,7 @@ uint32_t aig_circuit_trivial_new_and_node(aig_circuit_t *circuit, uint32_t a, ui
  * and the returned edge is a constant or one of the two. */
 uint32_t aig_circuit_new_and_node(aig_circuit_t *circuit, uint32_t a, uint32_t b, uint32_t *edge);
 
-/* Adds a gate for the or of two edges. The returned edge is the inverse of a gate for the and of their inverses. */
+/* Adds a gate for the and of the inverses of two edges, and returns the inverse of this gate, which is the or of the two edges. */
 uint32_t aig_circuit_trivial_new_or_node(aig_circuit_t *circuit, uint32_t a, uint32_t b, uint32_t *edge);
 
 /* Returns the or of two edges, which is the inverse of `aig_circuit_new_and_node` of their inverses. */
