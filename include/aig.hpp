@@ -308,13 +308,13 @@ class Circuit : public Held<aig_circuit_t, aig_circuit_free> {
   }
   static std::uint32_t literal(Signal signal) noexcept { return signal.edge_.literal(); }
 
-  /* Makes a call that returns an edge for two edges. */
+  /* Makes a call that takes two edges and returns an edge. */
   Result<Edge> gate(Signal::Gate *call, Signal a, Signal b) noexcept {
     if (Status status = of(a); !status) return status;
     if (Status status = of(b); !status) return status;
     return edge(told<std::uint32_t>(call, literal(a), literal(b)));
   }
-  /* Makes a call that returns an edge for several edges. */
+  /* Makes a call that takes several edges and returns an edge. */
   template <class Call> Result<Edge> gate(Call call, View<Edge> edges) noexcept {
     return edge(told<std::uint32_t>(call, literals(edges), edges.size()));
   }
