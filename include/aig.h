@@ -107,8 +107,8 @@ enum aig_status {
   AIG_PROOF_UNFINISHED = 49, /* The proof ends before the empty clause. */
 
   /* A witness is refused. */
-  AIG_WITNESS_STATUS = 60,   /* The first line isn't 1. */
-  AIG_WITNESS_PROPERTY = 61, /* The second line isn't b (for a lasso also j) and the number of a property. */
+  AIG_WITNESS_STATUS = 60,   /* The first line of the witness isn't 1. */
+  AIG_WITNESS_PROPERTY = 61, /* The second line of the witness isn't b (for a lasso also j) and the number of a property. */
   AIG_WITNESS_VALUES = 62,   /* A line of values is malformed, or the dot at the end is missing. */
   AIG_WITNESS_NONE = 63,     /* The file has only comments. */
   AIG_WITNESS_BAD = 64,      /* The witness is about a bad state property, but the call needs one about a justice property. */
