@@ -10,7 +10,7 @@
  * In addition to the requirements in aig.h, the caller has to meet these:
  * - A handle is initialised with AIG_NONE. The caller neither reads nor writes its member, and doesn't copy a handle that holds something.
  *   A handle may be moved, if its old location isn't used again.
- * - If a call takes two handles, they are different. A handle isn't in memory that the call reads or writes for another reason.
+ * - If a call takes two handles, they are different. The memory of a handle doesn't overlap other memory of the call.
  * - Only one call at a time is made on a handle, even if the call only reads. So two threads must not read the same circuit at the same
  *   time. `aig_circuit_clone` creates a second circuit for a second thread, and `aig_simulation_clone` a second simulation. A handle may
  *   be passed from one thread to another, if a lock or a join synchronises them.
