@@ -274,7 +274,7 @@ uint32_t aig_check_refuted(const uint8_t *file, size_t file_len, uint64_t k, boo
                            size_t proof_len);
 
 /* Returns AIG_DONE only if no run from an initial state, under the constraints at each step, reaches a bad state at a step from 0 to `k`.
- * `proof` has to refute the clauses of `aig_bounded`. It isn't read if the output of `aig_question` is the constant false. */
+ * `proof` has to refute the clauses of `aig_bounded`. The proof isn't read if the output of `aig_question` is the constant false. */
 uint32_t aig_check_refuted_to(const uint8_t *file, size_t file_len, uint64_t k, bool optimize, const uint8_t *proof,
                               size_t proof_len);
 
@@ -370,8 +370,8 @@ uint32_t aig_check_no_lasso(const uint8_t *file, size_t file_len, size_t j, uint
                             size_t proof_len);
 
 /* Returns AIG_DONE only if a file's justice property `j`, counted from 0, has no fair lasso of at most `k` + 1 steps. `proof` has to
- * refute the clauses of `aig_bounded` for the text that `aig_live` returns. It isn't read if the output of `aig_question` for this text
- * is the constant false. */
+ * refute the clauses of `aig_bounded` for the text that `aig_live` returns. The proof isn't read if the output of `aig_question` for this
+ * text is the constant false. */
 uint32_t aig_check_no_lasso_to(const uint8_t *file, size_t file_len, size_t j, uint64_t k, bool optimize, const uint8_t *proof,
                                size_t proof_len);
 
@@ -382,8 +382,8 @@ uint32_t aig_check_no_fair_run(const uint8_t *file, size_t file_len, size_t j, u
                                const uint8_t *base, size_t base_len, bool step_optimize, const uint8_t *step, size_t step_len);
 
 /* Returns the text form of the miter of two files with the same numbers of inputs, outputs and bad state properties. The miter is a
- * circuit in which both files read the same inputs, with the constraints of both. It is bad if their outputs or bad state properties
- * differ. */
+ * circuit in which both files read the same inputs, with the constraints of both. The miter is bad if the outputs or bad state properties
+ * of the two files differ. */
 uint32_t aig_miter(const uint8_t *file, size_t file_len, const uint8_t *other, size_t other_len, uint8_t *out, size_t out_len,
                    size_t *needed);
 
