@@ -46,7 +46,7 @@ enum aig_status {
   AIG_DONE = 0,       /* The answer was returned, or the checked statement is true. */
   AIG_SMALL = 1,      /* The answer doesn't fit `out`. `*needed` is its length. */
   AIG_MEMORY = 2,     /* malloc or realloc returned null. This isn't a statement about the files. */
-  AIG_STREAM = 3,     /* Reserved: no call returns it. */
+  AIG_STREAM = 3,     /* This status is reserved. No call returns it. */
   AIG_MANY_STEPS = 4, /* `k` is 2^32 or more. */
   AIG_TOO_LARGE = 5,  /* The circuit with its further steps may pass the limit. */
   AIG_NO_BADS = 6,    /* There is no bad state property, so there is nothing to check. */
