@@ -37,7 +37,7 @@ struct Message {
   const char *c_str() const { return text; }
 };
 
-/* The status of a call, which is one of aig.h. It converts to true exactly if the status is AIG_DONE. */
+/* The status of a call, with a number from `aig_status`. It converts to true exactly if the status is AIG_DONE. */
 class [[nodiscard]] Status {
   std::uint32_t code_;
 
