@@ -1,7 +1,9 @@
-"""Random cases that shrink: what hypothesis draws for tests, and how many cases each test tries.
+"""Random cases that shrink, which hypothesis draws for tests, and the number of cases that each
+test tries.
 
-A generator of this folder takes a `random.Random`. Here it is given one whose choices hypothesis
-draws, so that a case that fails becomes smaller by itself: fewer gates, literals nearer 0.
+A generator of this folder takes a `random.Random`. In this module it gets one whose choices are
+drawn by hypothesis, so that hypothesis can make a failing case smaller: with fewer gates, and with
+literals nearer to 0.
 """
 from __future__ import annotations
 
@@ -17,9 +19,10 @@ from hypothesis.strategies import SearchStrategy
 Made = TypeVar("Made")
 Test = TypeVar("Test", bound=Callable[..., Any])
 
-# How many bits a random number from 0 to 1 has.
+# The number of bits of a random number from 0 to 1.
 PRECISION = 24
-# Whether many cases are tried, and by which seed; conftest.py sets both before tests are read.
+# Whether many cases are tried, and with which seed. conftest.py sets both before pytest reads the
+# tests.
 is_long, seed = False, 1
 
 
@@ -38,8 +41,8 @@ class Choices(Random):
 
 
 class Drawn(SearchStrategy[Random]):
-    """Draws sources of random choices, in less time than hypothesis's own `randoms`, which draws
-    each choice by a strategy of its own."""
+    """Draws sources of random choices. This takes less time than hypothesis's own `randoms`, which
+    uses a separate strategy for each choice."""
 
     def do_draw(self, data: ConjectureData) -> Random:
         return Choices(data)
@@ -54,16 +57,17 @@ def choices() -> SearchStrategy[Random]:
 
 
 def made(generator: Callable[[Random], Made]) -> SearchStrategy[Made]:
-    """Returns what a generator makes of random choices, as a strategy."""
+    """Returns a strategy for the results of a generator with random choices."""
     return choices().map(generator)
 
 
 def cases(count: int, many: int | None = None) -> Callable[[Test], Test]:
-    """Lets a test try `count` random cases, or `many` with --long. The same seed gives the same."""
+    """Lets a test try `count` random cases, or `many` cases with --long. The same seed gives the
+    same cases."""
     counted = settings(max_examples=(many or 10 * count) if is_long else count)
 
     def decorated(test: Test) -> Test:
-        # A seed alone would keep no case that fails, so the settings come behind it.
+        # With only a seed, failing cases wouldn't be stored, so the settings are applied after it.
         return counted(seeded(seed)(test))
 
     return decorated
