@@ -1,9 +1,10 @@
 #!/usr/bin/env python3
-"""Makes the tables of ours beside others: run beside [--yardstick PROGRAM] [--gates N] [--bits N]
+"""Prints tables that compare our programs with others: run beside [--yardstick PROGRAM] [--gates N] [--bits N]
 
-`bench/run compare` for N (1000000) gates, beside ABC and PROGRAM, which has aigtool's command line; `bench/run refutations` for multipliers of N (7) bits,
-beside cadical, whose proofs are checked, and another checker of proofs; and `bench/run bounded`, beside ABC's `bmc3`. What isn't there is told,
-and left out."""
+The script runs `bench/run compare` for N (1000000) gates, which compares aigtool with ABC and PROGRAM. PROGRAM has the command line of
+aigtool. It runs `bench/run refutations` for multipliers of N (7) bits, which compares the check with the time of cadical and of another
+proof checker. And it runs `bench/run bounded`, which compares with ABC's `bmc3`. If a program isn't installed, the script prints this and
+leaves it out."""
 import shutil
 import subprocess
 import sys

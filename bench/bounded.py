@@ -1,12 +1,13 @@
 #!/usr/bin/env python3
-"""Measures bounded checks by one question beside ABC's: run bounded [--lrat SOLVER] [STEP ..]
+"""Compares bounded checks by one question with ABC's: run bounded [--lrat SOLVER] [STEP ..]
 
-For the designs of tests/designs and six machines that are made (`machines.py`), up to each STEP (20, 50): processor seconds of `aigcheck
-bounded`, of cadical, which is asked about one step after the other as by aigprove (or of SOLVER, a cadical from 1.7 on, which is asked
-once and writes LRAT), of `aigcheck refuted FILE to K` or `witness FILE to K`, of all three, and of ABC's `bmc3`, and what part of the last the sum is; what part of the solver's time question and check are; and what
-part of bmc3's the solver is alone. What makes the solver's file counts as a part of the question. Then means, also of the rows where the
-solver takes no longer than bmc3, and sums over the six machines.
-Times below 10 ms count as 10 ms. A program has 20 seconds by the clock; a row where one takes longer counts for nothing."""
+The circuits are those of tests/designs and six generated machines (`machines.py`), up to each STEP (20, 50). A row has the processor
+seconds of `aigcheck bounded`, of cadical, of `aigcheck refuted FILE to K` or `witness FILE to K`, of all three, and of ABC's `bmc3`.
+cadical solves one step after the other, as in aigprove. SOLVER, a cadical from 1.7 on, solves the question at once and writes LRAT. A row
+also has the ratio of the sum to the time of bmc3, the ratio of question and check to the solver's time, and the ratio of the solver's
+time to that of bmc3. Writing the solver's file counts as a part of the question. After the rows, the script prints means, also of the
+rows in which the solver takes no longer than bmc3, and sums over the six machines. Times below 10 ms count as 10 ms. A program may take
+20 seconds of wall-clock time. If one takes longer, its row doesn't count."""
 import os
 import statistics
 import time
@@ -16,20 +17,20 @@ from measuring import CHECK, DESIGNS, heads, new_folder, parser, row, run
 
 from aigprove.questions.solver import ASSUMING, are_in_conflict, in_turn
 
-# The status of `timeout` where a program takes longer.
+# The status of `timeout` if a program takes longer.
 LATE = 124
 LEAST, MOST = 0.01, 20
 
 
 def timed(words, out=os.devnull):
-    """The status of a program that prints into a file, and its processor seconds."""
+    """Runs a program that prints into a file, and returns its status and its processor seconds."""
     with open(out, "wb") as into:
         status, seconds, _ = run(["timeout", MOST, *words], into)
     return status, max(seconds, LEAST)
 
 
 def solver_words(solver, clauses, folder):
-    """The words that ask a solver about clauses: one that writes LRAT, or else cadical, in turn."""
+    """Returns the command line of the solver: of one that writes LRAT, or otherwise of cadical, which solves one step after the other."""
     if solver:
         return [solver, "-q", "--lrat=1", "--no-binary", clauses]
     turns = folder / "turns"
@@ -38,7 +39,7 @@ def solver_words(solver, clauses, folder):
 
 
 def asked(file, step, folder, solver):
-    """What is answered, and the seconds of the question, of the solver and of the check."""
+    """Returns the answer, and the seconds of the question, of the solver and of the check."""
     clauses, proof, solution = (folder / name for name in ["clauses", "proof", "solution"])
     _, making = timed([CHECK, "bounded", file, step], clauses)
     if are_in_conflict(clauses):
@@ -55,12 +56,12 @@ def asked(file, step, folder, solver):
 
 
 def told(ratios):
-    """The geometric mean of ratios, and the greatest."""
+    """Returns the geometric mean of ratios, and the greatest ratio."""
     return f"{statistics.geometric_mean(ratios):.2f}, at most {max(ratios):.2f} (of {len(ratios)})" if ratios else "none"
 
 
 def measure(step, files, folder, solver):
-    """Prints the rows of one step, and what they come to."""
+    """Prints the rows of one step, and their means and sums."""
     all_to_abc, where_less, own_to_solver, sums = [], [], [], [0, 0]
     for file in files:
         answer, making, solving, checking = asked(file, step, folder, solver)

@@ -1,10 +1,10 @@
 #!/usr/bin/env python3
-"""Measures calls in process beside the programs: run calls FILE ..
+"""Compares calls in the same process with the programs: run calls FILE ..
 
-For each file it takes the queries for the steps 0 to a bound, as far as they have no solution, and prints how long checking their proofs
-takes: by `check_refuted` of lib/python/aig.py, and by a process of aigcheck for each. And for a large circuit, which it makes, each call
-that prints beside its program. In processor seconds, the least of some runs. It needs cadical, and the libraries that tests/support/archive.py
-builds.
+For each file, the script solves the queries for the steps from 0 up to a bound, as long as they have no solution. It prints how long
+checking their proofs takes by `check_refuted` of lib/python/aig.py, and by a process of aigcheck for each step. For a large circuit,
+which it generates, it compares each call that prints with its program. Times are in processor seconds, the least of several runs. The
+script needs cadical, and the libraries that tests/support/archive.py builds.
 """
 import os
 import pathlib
@@ -17,7 +17,7 @@ RUNS = 5
 
 
 def least(work):
-    """The least processor time of some runs of something, in this process."""
+    """Returns the least processor time of several runs of a function in this process."""
     times = []
     for _ in range(RUNS):
         start = time.process_time()
@@ -27,12 +27,12 @@ def least(work):
 
 
 def least_of_programs(runs):
-    """The least processor time of some rounds of runs of programs, by their words."""
+    """Returns the least processor time of several rounds, each of which runs all programs with their arguments."""
     return min(sum(run(words)[1] for words in runs) for _ in range(RUNS))
 
 
 def proofs(aig, file, bound, folder):
-    """The steps up to a bound that have no solution, with the path and the bytes of a proof of each."""
+    """Yields the steps up to a bound that have no solution, each with the path and the bytes of a proof."""
     for k in range(bound + 1):
         query, proof = folder / "query", folder / f"proof{k}"
         query.write_bytes(aig.query(file, k))
@@ -42,7 +42,7 @@ def proofs(aig, file, bound, folder):
 
 
 def measure_checks(aig, given, path, folder):
-    """A row of a file's checks."""
+    """Returns the row about the checks for a file."""
     file = path.read_bytes()
     found = list(proofs(aig, file, given.bound, folder))
     if found:
@@ -52,7 +52,7 @@ def measure_checks(aig, given, path, folder):
 
 
 def measure_prints(aig, given, folder):
-    """Rows of the calls that print, on a circuit of so many gates."""
+    """Yields the rows about the calls that print, for a circuit with the given number of gates."""
     path = folder / "large.aag"
     make(given.kind, given.gates, path)
     file = path.read_bytes()

@@ -1,7 +1,7 @@
-"""Texts of circuits to measure with: run circuits KIND COUNT FILE
+"""Generates circuits for measurements: run circuits KIND COUNT FILE
 
-KIND is `multiplier`, and COUNT its bits; or `pipeline`, of random gates between latches, or `random`, of random gates, or `shuffled`,
-of the same gates in any order, and COUNT the gates. The same words make the same file.
+If KIND is `multiplier`, COUNT is the number of its bits. Otherwise COUNT is the number of gates. The circuit `pipeline` has random gates
+between latches, `random` has random gates, and `shuffled` has the same gates in any order. The same arguments give the same file.
 """
 import functools
 import pathlib
@@ -15,7 +15,7 @@ TOKENS, STAGES = 16, 52
 
 
 class Adders(Gates):
-    """Gates that compute."""
+    """The gates of a circuit, with operations that add gates."""
 
     def either(self, a, b):
         return self.both(a ^ 1, b ^ 1) ^ 1
@@ -28,7 +28,7 @@ class Adders(Gates):
         return self.differ(half, c), self.either(self.both(a, b), self.both(half, c))
 
     def product(self, a, b):
-        """The bits of a product, the lowest first: the rows of `a`, one for each bit of `b`, are added up in turn."""
+        """Returns the bits of a product, the lowest first. The rows of `a`, one for each bit of `b`, are added one after the other."""
         total = [0] * (len(a) + len(b))
         for i, bit in enumerate(b):
             carry = 0
@@ -39,18 +39,18 @@ class Adders(Gates):
 
 
 def numbers_of(bits):
-    """Gates over two numbers of so many bits, and these."""
+    """Returns gates over two numbers with the given count of bits, and the two numbers."""
     return Adders(2 * bits), list(range(2, 2 * bits + 2, 2)), list(range(2 * bits + 2, 4 * bits + 2, 2))
 
 
 def multiplier(bits):
-    """A file whose outputs are a product's bits: 10 gates for each pair of bits."""
+    """Returns a file whose outputs are the bits of a product. It has 10 gates for each pair of bits."""
     gates, a, b = numbers_of(bits)
     return Machine(a + b, outputs=gates.product(a, b), gates=gates).text()
 
 
 def multipliers(bits):
-    """A file that is bad where a product differs from that of the same numbers in the other order."""
+    """Returns a file that is bad if a product differs from the product of the same numbers in the other order."""
     gates, a, b = numbers_of(bits)
     bad = 0
     for one, other in zip(gates.product(a, b), gates.product(b, a)):
@@ -59,7 +59,8 @@ def multipliers(bits):
 
 
 def pipeline(gates):
-    """A file of so many gates, where tokens go on through stages or stay as random gates say; four in the last stage are bad."""
+    """Returns a file with the given number of gates, in which tokens move through stages. Random gates decide whether they move. A state
+    with four tokens in the last stage is bad."""
     rng, made = random.Random(1), Adders(TOKENS * (STAGES + 1))
     leaves, states = list(range(2, made.first, 2)), []
     inputs, latches, pool = leaves[:TOKENS], leaves[TOKENS:], list(leaves)
@@ -73,7 +74,7 @@ def pipeline(gates):
 
 
 def random_circuit(gates, inputs=1000, latches=1000, outputs=16):
-    """A file of random gates: operands are drawn from all smaller variables, half of them from the last thousand."""
+    """Returns a file of random gates. Operands are drawn from all smaller variables, half of them from the last thousand."""
     rng = random.Random(1)
     first_gate, end = inputs + latches + 1, inputs + latches + gates + 1
 
@@ -91,7 +92,7 @@ def random_circuit(gates, inputs=1000, latches=1000, outputs=16):
 
 
 def shuffled(gates):
-    """That file with its gates, which are the last lines, in any order."""
+    """Returns the same file with its gates, which are the last lines, in any order."""
     lines = random_circuit(gates).splitlines()
     last = lines[-gates:]
     random.Random(1).shuffle(last)

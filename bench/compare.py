@@ -1,14 +1,14 @@
 #!/usr/bin/env python3
-"""Measures `aigtool` beside other programs: run compare TOOL [--yardstick PROGRAM] [--runs N] [--instructions] [GATES ..]
+"""Compares `aigtool` with other programs: run compare TOOL [--yardstick PROGRAM] [--runs N] [--instructions] [GATES ..]
 
-TOOL is the built program, crates/aigtool/out/aigtool after `rt run` in crates/aigtool. PROGRAM is any program with aigtool's
-command line; what both print is compared. ABC is run where `berkeley-abc` is installed (`&r; &w`, `&r; &write_cnf`), its start
-taken off, and `cat` of the same file. A file with its gates in any order is measured beside TOOL on the file in order. For each of
-GATES (100000 1000000 4000000) there is a file of random gates with latches, the shuffled one, a multiplier, and a pipeline of a
-twentieth of the gates that is unrolled 20 times. The programs of a row run in turn, N (5) times over; the least processor time of
-each counts, and the greatest peak of memory. Peaks are compared where both are above 16 MiB, since this script's own hides smaller
-ones. --instructions counts instructions by callgrind instead of time. In the end there are geometric means of the ratios in the
-first columns, for each command.
+TOOL is the built program, crates/aigtool/out/aigtool after `rt run` in crates/aigtool. PROGRAM is any program with the command line of
+aigtool. The outputs of both are compared. If `berkeley-abc` is installed, ABC is run as well (`&r; &w`, `&r; &write_cnf`), and the time
+of its start is subtracted. `cat` of the same file is also measured. A file with its gates in any order is compared with TOOL on the file
+in order. For each of GATES (100000 1000000 4000000) there is a file of random gates with latches, the same file in any order, a
+multiplier, and a pipeline with a twentieth of the gates, which is unrolled for 20 steps. The programs of a row run in turn, N (5) times.
+The least processor time of each counts, and the greatest peak of memory. Peaks are compared only if both are above 16 MiB, because the
+peak of this script hides smaller ones. With --instructions, callgrind counts instructions instead of time. At the end, the script prints
+geometric means of the ratios in the first columns, for each command.
 """
 import filecmp
 import math
@@ -24,7 +24,7 @@ ABC = shutil.which("berkeley-abc")
 SEEN = 16 * 1024
 STEPS = 20
 REWRITE, CLAUSES = "&r FILE; &w OUT", "&r FILE; &write_cnf OUT"
-# The command that a mean is made for, its words, the file, and the commands of ABC.
+# The command of the mean to which a row belongs, its arguments, the file, and the commands of ABC.
 ROWS = [
     ("text", "text FILE", "random.aag", None),
     ("text", "text FILE", "random.aig", None),
@@ -51,7 +51,7 @@ def make_files(tool, gates, folder):
 
 
 def programs(options, words, commands, file):
-    """The words of each program of a row, and the file that each one writes."""
+    """Returns the command line of each program of a row, and the file that each program writes."""
     made, ordered = {}, file.with_name(file.name.replace("shuffled", "random"))
     beside = ("yardstick", options.yardstick, file) if ordered == file else ("ordered", options.tool, ordered)
     for name, program, read in [("tool", options.tool, file), beside]:
@@ -68,7 +68,7 @@ def programs(options, words, commands, file):
 
 
 def run_to(words, out, to_file):
-    """Seconds and peak of a run; what it prints goes to `out` unless it writes that itself."""
+    """Returns the seconds and the peak of memory of a run. The output goes to `out`, unless the program writes this file itself."""
     with open(os.devnull if to_file else out, "wb") as sink:
         status, seconds, peak = run(words, sink)
     if status != 0:
@@ -77,7 +77,7 @@ def run_to(words, out, to_file):
 
 
 def least(options, made, to_file):
-    """The cost of each program of a row, and its peak: instructions and 0, or the least seconds and the greatest peak."""
+    """Returns the cost of each program of a row, and its peak: instructions and 0, or the least seconds and the greatest peak."""
     costs = {}
     for _ in range(1 if options.instructions else options.runs):
         for name, (words, out) in made.items():
@@ -90,7 +90,7 @@ def least(options, made, to_file):
 
 
 def check_same(made, to_file):
-    """Ends where the yardstick prints something else."""
+    """Ends the script if PROGRAM prints something else."""
     if "yardstick" in made:
         for name in ["tool", "yardstick"]:
             run_to(*made[name], to_file)
@@ -99,7 +99,7 @@ def check_same(made, to_file):
 
 
 def ratios(costs, other):
-    """The ratios of cost and of peak to another program, where they can be told."""
+    """Returns the ratios of cost and of peak to another program, if they are known."""
     (mine, peak), (cost, others) = costs["tool"], costs.get(other, (0, 0))
     return mine / cost if cost > 0 else None, peak / others if min(peak, others) > SEEN else None
 
@@ -109,7 +109,7 @@ def shown(ratio):
 
 
 def measure(options, gates, folder, found):
-    """Prints the rows of one count of gates, and adds the ratios to what was found for each command."""
+    """Prints the rows for one number of gates, and adds the ratios to those of each command."""
     make_files(options.tool, gates, folder)
     for kind, words, name, commands in ROWS:
         to_file = "OUT" in words
@@ -125,7 +125,7 @@ def measure(options, gates, folder, found):
 
 
 def geometric_mean(values):
-    """The geometric mean of those that are told, if any is."""
+    """Returns the geometric mean of the known ratios, if there are any."""
     told = [value for value in values if value is not None]
     return statistics.geometric_mean(told) if told else None
 

@@ -1,14 +1,15 @@
 #!/usr/bin/env python3
-"""Measures bin/aigprove beside ABC on the designs of tests/designs: run designs [--equal] [SECONDS [DESIGN ..]]
+"""Compares bin/aigprove with ABC on the designs of tests/designs: run designs [--equal] [SECONDS [DESIGN ..]]
 
-For each design: seconds by the clock and of processor time of ABC's `bmc3` and of `pdr`, each alone and for at most SECONDS (60), and of
-aigprove with all that it runs, and what that answers. `-` is no answer. The last line has the most seconds by the clock that aigprove takes
-beyond the better of both commands, where one answers: one is wanted on four cores without other work.
+A row has, for a design, the wall-clock and processor seconds of ABC's `bmc3` and of `pdr`, each alone and for at most SECONDS (60), and
+of aigprove with all programs that it runs, and the answer of aigprove. `-` means that there is no answer. The last line has the largest
+difference of wall-clock seconds between aigprove and the better of both commands, if one of them answers. The goal is at most one second,
+on four cores without other work.
 
-With --equal each design, and the processor beside this script where yosys is there, is compared with what ABC makes of it: seconds of
-ABC's `dsec` and of aigprove, and by which engine that answers. Where aigprove takes over a second more both are timed again, TIMES times in
-all, and the least seconds count: other work on the machine only adds to them. The last lines have the medians, and the pairs that took over a
-second more each time. DESIGN may be a file, too."""
+With --equal, each design is compared with the circuits that ABC derives from it. If yosys is installed, the processor in this folder is
+compared, too. A row has the seconds of ABC's `dsec` and of aigprove, and the engine that answers. If aigprove takes over a second more,
+both are measured again, up to TIMES times in all. The least seconds count, because other work on the machine only adds to them. The last
+lines have the medians, and the pairs that took over a second more each time. DESIGN may also be a file."""
 import itertools
 import os
 import pathlib
@@ -21,13 +22,14 @@ import time
 from measuring import DESIGNS, FORMS, HERE, PROVE, compile_aigprove, heads, new_folder, parser, row
 
 PROCESSOR = "read_verilog {}; synth -flatten; dffunmap; abc -g AND; opt_clean; aigmap; write_aiger -zinit {}"
-# How often a pair is timed at most.
+# The largest number of measurements of a pair.
 TIMES = 3
 DONE = ["was asserted in frame", "Property proved", "Explored all reachable states"]
 
 
 def timed(words, seconds, errors=subprocess.DEVNULL):
-    """Seconds by the clock and of processor time of a program with all that it runs, and what it prints: nothing where it takes too long."""
+    """Returns the wall-clock and processor seconds of a program with all programs that it runs, and its output, or no output if it takes
+    too long."""
     begun, before = time.monotonic(), os.times()
     with subprocess.Popen(words, stdout=subprocess.PIPE, stderr=errors, encoding="utf-8", start_new_session=True) as child:
         try:
@@ -40,7 +42,7 @@ def timed(words, seconds, errors=subprocess.DEVNULL):
 
 
 def abc(file, command, seconds):
-    """Seconds of a command of ABC, or None where it answers nothing; constraints and resets are made plain for it."""
+    """Returns the seconds of a command of ABC, or None if it doesn't answer. Constraints and resets are removed from its file first."""
     *took, printed = timed(["berkeley-abc", "-q", f"read_aiger {file}; logic; undc; strash; zero; fold; {command}"], seconds)
     return took if any(done in printed for done in DONE) else None
 
@@ -50,7 +52,7 @@ def shown(took):
 
 
 def compared(file, form, folder, seconds):
-    """The seconds of `dsec` and of aigprove about a design and what ABC makes of it, and what both say."""
+    """Returns the seconds of `dsec` and of aigprove for a design and the circuit that ABC derives from it, and both answers."""
     plain, made = folder / "plain.aig", folder / "made.aig"
     made.unlink(missing_ok=True)
     read = f"read_aiger {file}; logic; undc; strash; zero"
@@ -63,22 +65,22 @@ def compared(file, form, folder, seconds):
 
 
 def best(tries):
-    """The least seconds of each of two programs, of the tries in which it answers as in the first."""
+    """Returns the least seconds of each of two programs, among the runs in which it gives the same answer as in the first."""
     return [min(took[:2] for took in own if answers(took[2]) == answers(own[0][2])) for own in zip(*tries)]
 
 
 def answers(said):
-    """The lines of an answer that aigprove or `dsec` prints."""
+    """Returns the lines of an answer of aigprove or `dsec`."""
     return [line for line in said.splitlines() if line.startswith(("equal at every", "a difference", "Networks are"))]
 
 
 def is_over(by_abc, ours):
-    """Whether aigprove takes over a second more."""
+    """Returns whether aigprove takes over a second more."""
     return ours[0] > by_abc[0] + 1
 
 
 def compare(files, seconds):
-    """The table of comparisons."""
+    """Prints the table of comparisons."""
     heads("design", "form", "dsec", "answer", "aigprove", "answer")
     both, slow = [], []
     with new_folder() as folder:

@@ -1,9 +1,9 @@
 #!/usr/bin/env python3
-"""Measures the gate as it runs: run gate, beside tests/run
+"""Measures the merge check while it runs: run gate, at the same time as tests/run
 
-Looks each second at the toolchain's processes, until there have been none for a minute or it is interrupted, and then prints for each
-crate the processor seconds of its proof, of its tests and of its edits with the check that they begin with, how many edits there are,
-and the greatest peak of memory.
+The script looks at the toolchain's processes each second, until there have been none for a minute or it is interrupted. Then it prints
+for each crate the processor seconds of its proof, of its tests, and of its wrong bodies with the check at their start, the number of
+wrong bodies, and the greatest peak of memory.
 """
 import collections
 import contextlib
@@ -21,7 +21,8 @@ QUIET = 60
 
 
 def processes():
-    """The checks and builds that run: of each its number and start, the words it was given, its processor seconds and its peak in MB."""
+    """Returns the running checks and builds: for each process its number and start, its arguments, its processor seconds and its peak in
+    MB."""
     for path in pathlib.Path("/proc").glob("[0-9]*"):
         try:
             words = (path / "cmdline").read_bytes().decode(errors="replace").split("\0")
@@ -34,15 +35,16 @@ def processes():
 
 
 def share(words):
-    """Which crate a process works on, and whether on its proof, its tests or its edits. A library is built and a program is checked, so
-    that a check of a library is one of its edits; the build of a program comes after its check, and counts as its proof."""
+    """Returns the crate on which a process works, and whether it works on the proof, the tests or the wrong bodies of the crate. A
+    library is built and a program is checked, so a check of a library belongs to its wrong bodies. The build of a program comes after its
+    check, and counts as its proof."""
     name = words[words.index("--crate-name") + 1]
     is_library = (TOP / "crates" / name / "src" / "lib.rt").exists()
     return name, "tests" if "--test" in words else "edits" if words[1] == "check" and is_library else "proof"
 
 
 def watched():
-    """What each process took: its share, its seconds and its peak."""
+    """Returns the costs of each process: its crate and kind of work, its seconds and its peak."""
     took, seen = {}, time.monotonic()
     with contextlib.suppress(KeyboardInterrupt):
         while time.monotonic() - seen < QUIET:

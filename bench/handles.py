@@ -1,14 +1,15 @@
 #!/usr/bin/env python3
-"""Counts instructions of calls on circuits in memory, by callgrind: run handles [GATES [STEPS]]
+"""Counts the instructions of calls on circuits in memory with callgrind: run handles [GATES
+[STEPS]]
 
-A file of GATES (100000) random gates is read, written, given STEPS (5) further steps, and its
-clauses are taken. Each call is compared with what the command that does the same takes for that: a
-ratio above 1.05 fails. A call of `aig_circuit_new_and_node` fails where it takes more than 150
-instructions beside the library's own function.
+A file of GATES (100000) random gates is read, written, unrolled for STEPS (5) further steps, and
+encoded as clauses. Each call is compared with the command that does the same. The script fails if
+the ratio is above 1.05. It also fails if a call of `aig_circuit_new_and_node` takes more than 150
+instructions in addition to the library's own function.
 
-Files and texts are copied from memory to memory, where the system copies a program's. The C library
-copies large pieces by one instruction that callgrind counts once for each byte: so it is told here
-to copy by others.
+Files and texts are copied from memory to memory, whereas the operating system copies those of a
+program. The C library copies large pieces with one instruction, which callgrind counts once for
+each byte. So the script makes it copy with other instructions.
 """
 from __future__ import annotations
 
@@ -28,14 +29,16 @@ MOST_RATIO, MOST_BESIDE = 1.05, 150
 COPYING = {"GLIBC_TUNABLES": "glibc.cpu.x86_rep_movsb_threshold=1000000000"}
 COUNT = 20_000
 CALL, FUNCTION = "aig_circuit_new_and_node", "aig_build::build::new_and_node"
-# The instructions of a function, with those of what it calls, and its name but for its types.
+# The instructions of a function, including those of the functions that it calls, and its name
+# without its types.
 COST = re.compile(r"^ *([\d,]+) .*?:((?:aig|main)[\w:]*)(?:::<#\w+>)? \[", re.MULTILINE)
 
 
 @dataclasses.dataclass
 class Compared:
-    """A call, the words of the programs that make it and what it is compared with, and functions of
-    the command: what they take is added up, or the last's is taken off where `less` is so."""
+    """A call, the arguments of the program that makes it and of the command with which it is
+    compared, and functions of the command. The instructions of these functions are added up, or
+    those of the last function are subtracted if `less` is true."""
 
     call: str
     words: list[str]
@@ -49,7 +52,7 @@ class Compared:
 
 
 def compared(path: str, steps: str) -> list[Compared]:
-    """Returns what is compared on a file."""
+    """Returns the comparisons for a file."""
     reading = ["aig_reader::reader::read"]
     printing = ["aig_writer::form::write_form", "aig::graph::Aig::check_writable"]
     unrolling = ["aig_edit_commands::acting::write_made", "aig_writer::form::write_text"]
@@ -72,7 +75,8 @@ def build(library: Path, folder: Path) -> str:
 
 
 def costs(words: Sequence[str], folder: Path) -> dict[str, int]:
-    """Returns the instructions of each function of a run, with those of what it calls."""
+    """Returns the instructions of each function of a run, including those of the functions that it
+    calls."""
     counts = folder / "counts"
     run(["valgrind", "--tool=callgrind", f"--callgrind-out-file={counts}", *words])
     annotate = ["callgrind_annotate", "--inclusive=yes", "--threshold=100", str(counts)]

@@ -1,11 +1,12 @@
 #!/usr/bin/env python3
-"""Measures the incremental model checker of examples/ beside ABC's bmc3: run incremental [STEP]
+"""Compares the incremental model checker of examples/ with ABC's bmc3: run incremental [STEP]
 
-For the designs of tests/designs, up to STEP (50): how the example in C++ ends, processor seconds of it, of it without its checks, and of
-ABC's `bmc3`, and what part of the last both are. Then the means. Without checks it prints the same lines, which nothing has checked then.
-Times below 10 ms count as 10 ms. A program has 60 seconds by the clock; a row where one takes longer counts for nothing.
+The designs are those of tests/designs, up to STEP (50). A row has the status of the example in C++, its processor seconds, those without
+its checks, those of ABC's `bmc3`, and the ratios of the first two to the last. The means follow. Without checks, the example prints the
+same lines, but nothing has checked them. Times below 10 ms count as 10 ms. A program may take 60 seconds of wall-clock time. If one takes
+longer, its row doesn't count.
 
-Needs g++ and libcadical-dev, and the library for C as tests/support/archive.py builds it."""
+The script needs g++ and libcadical-dev, and the library for C that tests/support/archive.py builds."""
 from __future__ import annotations
 
 import pathlib
@@ -16,15 +17,15 @@ from collections.abc import Sequence
 
 from measuring import DESIGNS, TESTS, TOP, heads, new_folder, parser, row, run
 
-# The line that checks, and what takes its place.
+# The line that checks, and the line that replaces it.
 CHECKS, NOTHING = "require(steps.check_refuted(k, proof.text + \"0\\n\"));", ""
-# The status of `timeout` where a program takes longer.
+# The status of `timeout` if a program takes longer.
 LATE = 124
 LEAST, MOST = 0.01, 60
 
 
 def build(folder: pathlib.Path, name: str, text: str) -> pathlib.Path:
-    """Returns a program of a source in C++, over the library in the folder."""
+    """Builds a program from C++ source with the library in the folder, and returns its path."""
     source, program = folder / f"{name}.cpp", folder / name
     source.write_text(text, encoding="utf-8")
     words = ["g++", "-std=c++17", "-O2", f"-I{TOP / 'include'}", source, folder / "libaig.a", "-lcadical", "-o", program]
@@ -33,7 +34,7 @@ def build(folder: pathlib.Path, name: str, text: str) -> pathlib.Path:
 
 
 def timed(words: Sequence[object]) -> tuple[int, float]:
-    """Returns the status of a program, and its processor seconds."""
+    """Runs a program, and returns its status and its processor seconds."""
     status, seconds, _ = run(["timeout", MOST, *words])
     return status, max(seconds, LEAST)
 

@@ -1,10 +1,10 @@
 #!/usr/bin/env python3
-"""Fails where `aigtool` takes more instructions than it did: run instructions TOOL [--write]
+"""Fails if `aigtool` takes more instructions than before: run instructions TOOL [--write]
 
-TOOL is the built program, crates/aigtool/out/aigtool after `rt run` in crates/aigtool. callgrind counts the instructions of six
-commands on a file of 100,000 random gates. Each count is compared with that of instructions.tsv beside this script, and a rise
-by a twentieth or more fails; `--write` writes the counts there instead. A count hardly depends on other load, but on the
-compiler and the machine's C library: write them anew where one of these changes.
+TOOL is the built program, crates/aigtool/out/aigtool after `rt run` in crates/aigtool. callgrind counts the instructions of six commands
+on a file of 100,000 random gates. Each count is compared with that in the file instructions.tsv in this folder. The script fails if a
+count has increased by a twentieth or more. `--write` writes the counts into the file instead. A count hardly depends on other load, but
+it depends on the compiler and the machine's C library. If one of these changes, write the counts again.
 """
 import subprocess
 import sys
@@ -24,7 +24,7 @@ def count_all(tool, folder):
 
 
 def add_bad(file):
-    """Makes the first output a bad state property as well, so that there is something to query."""
+    """Makes the first output also a bad state property, so that the file has a query."""
     lines = file.read_text().splitlines(keepends=True)
     inputs, latches, outputs = map(int, lines[0].split()[2:5])
     first = 1 + inputs + latches

@@ -1,16 +1,16 @@
 #!/usr/bin/env python3
-"""Measures `aigedit miter` beside reading both files and writing what it writes: run joins [GATES [RUNS]]
+"""Compares `aigedit miter` with the time to read both files and to write the miter: run joins [GATES [RUNS]]
 
-Two files have the same GATES (1000000) random gates, 1000 inputs and 1000 latches, in any order and in order. `aigtool text` of each
-reads both, and writes as many gates as their miter has but for those that compare; and it reads and writes the miter. Processor
-seconds, the least of RUNS (3), and peaks of memory."""
+Two files have the same GATES (1000000) random gates, 1000 inputs and 1000 latches. One file has them in any order, and the other in
+order. `aigtool text` of both files reads them, and writes the gates of their miter except those that compare. `aigtool text` also reads
+and writes the miter. The table has processor seconds, the least of RUNS (3), and peaks of memory."""
 import sys
 
 from measuring import EDIT, TOOL, make, new_folder, numbers, row, run
 
 
 def least(words, runs):
-    """The least seconds and the greatest peak of some runs, which end well."""
+    """Returns the least seconds and the greatest peak of several runs, which have to succeed."""
     statuses, seconds, peaks = zip(*(run(words) for _ in range(runs)))
     return (min(seconds), max(peaks)) if not any(statuses) else sys.exit(f"{' '.join(map(str, words))} failed")
 

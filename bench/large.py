@@ -1,9 +1,10 @@
 #!/usr/bin/env python3
 """Measures all commands on a large file: run large [GATES [STEPS]]
 
-A file of GATES (1000000) random gates, 1000 inputs and 1000 latches, whose 16 outputs are bad states, and STEPS (20) further steps, for
-which `--limit` is given. Each row has the processor seconds of a command, its peak of memory, and how many times as long it takes as on a
-quarter of the gates, by which four is linear. A command has ten minutes; one that is refused has its status in the place of the seconds."""
+The file has GATES (1000000) random gates, 1000 inputs and 1000 latches, and its 16 outputs are bad state properties. Commands that unroll
+get STEPS (20) further steps, and all get `--limit`. Each row has the processor seconds of a command, its peak of memory, and the ratio of
+its time to that for a quarter of the gates. A ratio of four means that the time is linear. A command may take ten minutes. If a command
+is refused, the row has its status instead of the seconds."""
 import sys
 
 from measuring import CHECK, EDIT, TOOL, heads, make, new_folder, numbers, row, run
@@ -20,7 +21,7 @@ COMMANDS = [
 
 
 def files(gates, steps, folder):
-    """The words of commands that stand for files, and the steps."""
+    """Returns the arguments of commands that stand for files, and the steps."""
     folder.mkdir()
     paths = {name: folder / name.lower() for name in ["MADE", "FILE", "OUT", "WITNESS"]}
     make("random", gates, paths["MADE"])

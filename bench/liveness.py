@@ -1,10 +1,11 @@
 #!/usr/bin/env python3
-"""Measures bin/aigprove on liveness beside ABC: run liveness [SECONDS [DESIGN ..]]
+"""Compares bin/aigprove with ABC on liveness: run liveness [SECONDS [DESIGN ..]]
 
-For each design of tests/fair, with each of its parameters, and each of its liveness assertions: seconds by the clock and of processor time
-of ABC's `l2s` and `pdr` on the file that yosys makes, for at most SECONDS (60), and of aigprove --justice on the same file with all that
-it runs, and what that answers; and of aigprove --justice on the design. `-` is no answer. At most twice ABC's time and a second by the
-clock is wanted on the file, where ABC answers, on four cores without other work; the last line has the most beyond twice ABC's."""
+There is a row for each design of tests/fair, with each of its parameters, and each of its liveness assertions. It has the wall-clock and
+processor seconds of ABC's `l2s` and `pdr` on the file that yosys writes, for at most SECONDS (60), and those of aigprove --justice on the
+same file, with all programs that it runs, and its answer. It also has the seconds of aigprove --justice on the design. `-` means that
+there is no answer. The goal is that aigprove takes at most twice the time of ABC and one second more on the file, if ABC answers, on four
+cores without other work. The last line has the largest time beyond twice that of ABC."""
 import sys
 
 from designs import shown, timed
@@ -18,7 +19,7 @@ DONE = ["was asserted in frame", "Property proved", "Explored all reachable stat
 
 
 def plain(file, number, made):
-    """Writes a file in the form that ABC reads, in which outputs say by their names what is asserted and assumed."""
+    """Writes a file in the format that ABC reads, in which the names of outputs mark assertions and assumptions."""
     machine = machine_of(harness.output([harness.TOOL, "text", str(file)]))
     (justice,) = machine.justice[number]
     machine.outputs = [justice ^ 1, *machine.fairness, *machine.constraints]
@@ -29,13 +30,13 @@ def plain(file, number, made):
 
 
 def abc(file, seconds):
-    """Seconds of ABC, or None where it answers nothing."""
+    """Returns the seconds of ABC, or None if it doesn't answer."""
     *took, printed = timed(["berkeley-abc", "-q", f"read_aiger {file}; logic; undc; strash; l2s; strash; pdr"], seconds)
     return took if any(done in printed for done in DONE) else None
 
 
 def measured(design, folder, seconds):
-    """The rows of a design: what aigprove takes beyond twice ABC's time on each file."""
+    """Prints the rows of a design, and returns the times of aigprove beyond twice the time of ABC for each file."""
     run([PROVE, "--tasks", "--keep", folder / "kept", *design.words()])
     file = folder / "kept" / "lives.aig"
     for number in range(len(design.asked()[0])):

@@ -1,9 +1,11 @@
 #!/usr/bin/env python3
-"""Measures `aigcheck` on proofs as long as one likes, which it reads by a pipe while they are made: run long_proofs AIGTOOL AIGCHECK [GIGABYTES ..]
+"""Measures `aigcheck` on proofs of any length, which it reads from a pipe while they are generated: run long_proofs AIGTOOL AIGCHECK
+[GIGABYTES ..]
 
-AIGTOOL and AIGCHECK are the built programs, crates/NAME/out/NAME after `rt run` in crates/NAME. For each of GIGABYTES (1 10) a proof in
-the LRAT format of so many bytes is made: steps that follow along a chain of gates, each deleted again, and the empty clause. Each row has
-the proof's size, how many steps add a clause, the seconds of the check by the clock and of processor time, and its peak memory.
+AIGTOOL and AIGCHECK are the built programs, crates/NAME/out/NAME after `rt run` in crates/NAME. For each of GIGABYTES (1 10), a proof of
+this size in the LRAT format is generated. Its steps follow along a chain of gates, each step is deleted again, and the last step is the
+empty clause. Each row has the size of the proof, the number of steps that add a clause, the wall-clock and processor seconds of the
+check, and its peak of memory.
 """
 import itertools
 import os
@@ -13,12 +15,12 @@ import time
 
 from measuring import heads, new_folder, row, run
 
-# How many gates the chain has, and how many clauses are there at once.
+# The number of gates of the chain, and the number of clauses that exist at the same time.
 GATES, KEPT = 20, 1000
 
 
 def chain(gates):
-    """A file that is bad where the last of a chain of gates is true and its first operand isn't: nowhere."""
+    """Returns a file that is bad if the last of a chain of gates is true and its first operand isn't, which never happens."""
     inputs = [2 * i for i in range(1, gates + 2)]
     lines, last = [], inputs[0]
     for operand in inputs[1:]:
@@ -31,13 +33,13 @@ def chain(gates):
 
 
 def clauses_of(text):
-    """The clauses of a DIMACS file, from 1 on."""
+    """Returns the clauses of a DIMACS file, numbered from 1."""
     lines = (line for line in text.splitlines() if line and line[0] not in "cp")
     return {i: [int(word) for word in line.split()[:-1]] for i, line in enumerate(lines, 1)}
 
 
 def hints(clauses, assumed):
-    """The numbers of clauses along which unit propagation comes to a conflict, in order, where these literals are true."""
+    """Returns the numbers of the clauses with which unit propagation finds a conflict, in order, if the given literals are true."""
     known, used = set(assumed), []
     while True:
         for number, clause in clauses.items():
@@ -53,7 +55,7 @@ def hints(clauses, assumed):
 
 
 def implied(clauses):
-    """The longest chain of clauses of two literals, as the clause that follows along it."""
+    """Returns the clause that follows along the longest chain of clauses of two literals."""
     follows = {}
     for clause in clauses.values():
         for literal, other in itertools.permutations(clause) if len(clause) == 2 else []:
@@ -71,7 +73,7 @@ def implied(clauses):
 
 
 def write_proof(clauses, size, out):
-    """Writes a proof of so many bytes, and a little more: how many steps add a clause."""
+    """Writes a proof of at least the given size, and returns the number of steps that add a clause."""
     clause = implied(clauses)
     tail = " ".join(map(str, [*clause, 0, *hints(clauses, [-literal for literal in clause]), 0])) + "\n"
     number, written = len(clauses) + 1, 0

@@ -1,4 +1,5 @@
-"""Machines to ask about, made word by word: run machines FOLDER writes each as a binary file. No bad state is reached but in `lock`."""
+"""Circuits for measurements, which are built from words: run machines FOLDER writes each of them as a binary file. Only `lock` reaches a
+bad state."""
 import itertools
 import pathlib
 import sys
@@ -8,7 +9,7 @@ from aiger import Machine
 
 
 class Design(Adders):
-    """Gates over words, which are lists of literals, the lowest bit first; inputs and registers are words of so many bits."""
+    """Gates over words. A word is a list of literals, the lowest bit first. Inputs and registers are words."""
 
     def __init__(self, inputs, registers):
         super().__init__(sum(inputs) + sum(registers))
@@ -16,22 +17,22 @@ class Design(Adders):
         self.inputs, self.registers = ([list(itertools.islice(literals, bits)) for bits in words] for words in (inputs, registers))
 
     def choice(self, condition, left, right):
-        """One of two words."""
+        """Returns one of two words, as a condition selects."""
         return [self.either(self.both(condition, one), self.both(condition ^ 1, other)) for one, other in zip(left, right)]
 
     def all(self, literals):
-        """Whether all hold, by a chain."""
+        """Returns whether all literals are true, by a chain of gates."""
         return self.any([literal ^ 1 for literal in literals]) ^ 1
 
     def any(self, literals):
-        """Whether one of them holds, by a chain."""
+        """Returns whether a literal is true, by a chain of gates."""
         last = 0
         for literal in literals:
             last = self.either(last, literal)
         return last
 
     def several(self, literals):
-        """Whether two of them hold."""
+        """Returns whether two of the literals are true."""
         one = two = 0
         for literal in literals:
             two, one = self.either(two, self.both(one, literal)), self.either(one, literal)
@@ -41,7 +42,7 @@ class Design(Adders):
         return self.all(self.differ(bit, far) ^ 1 for bit, far in zip(word, other))
 
     def sum(self, word, other, carry=0):
-        """The sum of two words, as long as they are."""
+        """Returns the sum of two words, with their length."""
         bits = []
         for bit, far in zip(word, other):
             total, carry = self.sum_and_carry(bit, far, carry)
@@ -49,7 +50,8 @@ class Design(Adders):
         return bits
 
     def machine(self, nexts, bad, starts):
-        """The machine whose registers have these values next, and these at first: numbers, or None where that is open."""
+        """Returns the circuit whose registers have the given next values and initial values. An initial value is a number, or None if it
+        is open."""
         rows = []
         for word, next, start in zip(self.registers, nexts, starts, strict=True):
             rows += [(bit, after, bit if start is None else start >> i & 1) for i, (bit, after) in enumerate(zip(word, next, strict=True))]
@@ -61,7 +63,8 @@ def constant(number, bits):
 
 
 def ring(stations=16):
-    """A token goes round where stations ask for it or not, and one that asks keeps it for a time; bad: two have it."""
+    """A token moves around a ring of stations, and a station that requests it keeps it for a time. A state is bad if two stations have
+    the token."""
     made = Design([stations], [stations, 3])
     (asks,), (token, held) = made.inputs, made.registers
     is_over = made.all(held)
@@ -74,7 +77,8 @@ def ring(stations=16):
 
 
 def rings(one=9, other=10):
-    """Two marks go round in rings of other lengths, one step where an input says so; bad: both are in the last places, at step 89."""
+    """Two marks move around rings of different lengths, one position whenever an input is true. A state is bad if both are at their last
+    positions, which is first possible at step 89."""
     made = Design([1], [one, other])
     (moves,), first, second = *made.inputs, *made.registers
     nexts = [made.choice(moves, [ring[-1], *ring[:-1]], ring) for ring in (first, second)]
@@ -82,7 +86,8 @@ def rings(one=9, other=10):
 
 
 def lock(digits=12, bits=4):
-    """A lock that opens after so many right digits in a row, each of which follows from the one before; bad: it is open."""
+    """A lock that opens after a number of correct digits in a row, each of which depends on the one before. A state is bad if the lock is
+    open."""
     made = Design([bits], [bits, 4])
     (given,), (wanted, right) = made.inputs, made.registers
     is_right = made.is_equal(given, wanted)
@@ -93,7 +98,8 @@ def lock(digits=12, bits=4):
 
 
 def arbiter(count=8):
-    """Who asks gets a turn, from the one behind the last on; who asked waits and asks on. Bad: one waits as many turns as there are."""
+    """An arbiter that serves the clients in turn, beginning after the last one that was served. A client that isn't served continues to
+    request. A state is bad if a client has waited for as many turns as there are clients."""
     made = Design([count], [count, count, *[4] * count])
     (comes,), (turn, waits, *ages) = made.inputs, made.registers
     asks = [made.either(come, wait) for come, wait in zip(comes, waits)]
@@ -111,7 +117,7 @@ def arbiter(count=8):
 
 
 def multiplier(bits=5):
-    """A product that is added up in so many steps; bad: it isn't that of an array of adders once it is there."""
+    """A product that is added up in several steps. A state is bad if the finished product differs from that of an array of adders."""
     made = Design([bits, bits, 1], [bits, bits, bits, 2 * bits, 2 * bits, bits + 1])
     (first, second, (begins,)), (one, other, rest, shifted, total, place) = made.inputs, made.registers
     is_free = place[bits]
@@ -132,8 +138,8 @@ def multiplier(bits=5):
 
 
 def watchdog(bits=5):
-    """A counter that is set back by a key of two words in order, and rings at its end; bad: it rings though a chain of latches has seen the
-    key in as many steps."""
+    """A watchdog counter that is reset by a key of two words in order, and fires at its end. A state is bad if it fires although a chain
+    of latches has seen the key within this number of steps."""
     count = 1 << bits
     made = Design([3], [1, bits, count - 1, 1])
     (word,), ((half,), age, seen, (rings,)) = made.inputs, made.registers

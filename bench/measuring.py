@@ -1,4 +1,4 @@
-"""Programs, runs of one as they are measured, and files to run it on."""
+"""Programs, measurements of their runs, and files for them."""
 from __future__ import annotations
 
 import os
@@ -16,14 +16,15 @@ DESIGNS = TESTS / "designs"
 
 
 def run(words: Sequence[object], out: int | IO[bytes] = subprocess.DEVNULL) -> tuple[int, float, int]:
-    """The status, processor seconds and peak kilobytes of one run. A peak below this script's own, some 12 MiB, isn't seen."""
+    """Returns the status, the processor seconds and the peak kilobytes of one run. A peak below that of this script, some 12 MiB, can't
+    be measured."""
     child = subprocess.Popen(list(map(str, words)), stdout=out, stderr=subprocess.DEVNULL)
     _, status, usage = os.wait4(child.pid, 0)
     return os.waitstatus_to_exitcode(status), usage.ru_utime + usage.ru_stime, usage.ru_maxrss
 
 
 def instructions(words: Sequence[object]) -> int:
-    """How many instructions callgrind counts in a run."""
+    """Returns the number of instructions that callgrind counts in a run."""
     with new_folder() as folder:
         counts = folder / "counts"
         status, _, _ = run(["valgrind", "--tool=callgrind", f"--callgrind-out-file={counts}", *words])
@@ -33,16 +34,17 @@ def instructions(words: Sequence[object]) -> int:
 
 
 def row(*words: object) -> None:
-    """A row of a table."""
+    """Returns a row of a table."""
     print(f"| {' | '.join(map(str, words))} |", flush=True)
 
 
 def heads(*words: object) -> None:
-    """The first two rows of a table."""
+    """Returns the first two rows of a table."""
     row(*words)
     row(*["---"] * len(words))
 
 
 def make(kind: str, count: int, file: str | pathlib.Path) -> None:
-    """Makes a file of circuits.py in a process of its own, since a child's peak of memory counts its parent's."""
+    """Generates a file of circuits.py in a separate process, because the peak of memory of a child process includes that of its parent.
+    """
     subprocess.run([sys.executable, HERE / "circuits.py", kind, str(count), file], check=True)

@@ -1,10 +1,10 @@
 #!/usr/bin/env python3
-"""Measures bin/aigprove beside the questions that it asks: run model_checks [GATES [BOUND]]
+"""Compares bin/aigprove with the queries that it solves: run model_checks [GATES [BOUND]]
 
-It makes a file of GATES (10000) gates in which tokens go through 52 stages, so that the bad state, which is four tokens in the
-last one, isn't reached up to step BOUND (50). Each row has seconds of processor time and by the clock, all programs together: of
-`aigtool query` and cadical for all steps, and of `aigprove --engine steps`, which asks the same and has the answers checked; and
-what part of the first the last is."""
+The script generates a file of GATES (10000) gates, in which tokens move through 52 stages. A state is bad if four tokens are in the last
+stage, which isn't reached up to step BOUND (50). Each row has processor and wall-clock seconds of all programs together, for `aigtool
+query` and cadical for all steps, and for `aigprove --engine steps`, which solves the same queries and lets aigcheck check the answers. It
+also has the ratio of both."""
 import os
 import subprocess
 import time
@@ -14,7 +14,7 @@ from measuring import PROVE, TOOL, new_folder, numbers, row
 
 
 def measured(call):
-    """Seconds of processor time of the programs that a call runs, and by the clock."""
+    """Returns the processor seconds of the programs that a call runs, and the wall-clock seconds."""
     clock, before = time.monotonic(), os.times()
     call()
     after = os.times()

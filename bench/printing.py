@@ -1,9 +1,9 @@
 #!/usr/bin/env python3
-"""Measures printed clauses of large files: run printing [GATES [RUNS]]
+"""Measures printing the clauses of large files: run printing [GATES [RUNS]]
 
-Of a file of GATES (200000) random gates, 1000 inputs and 1000 latches, whose outputs are bad states: `aigcheck obligations` of it and
-itself, `aigcheck window` of two steps and of three, and `aigtool cnf` of five times as many gates for 10 steps. Processor seconds, the
-least of RUNS (3), and the greatest peak of memory."""
+The file has GATES (200000) random gates, 1000 inputs and 1000 latches, and its outputs are bad state properties. The script measures
+`aigcheck obligations` with the file as its own certificate, `aigcheck window` for two steps and for three, and `aigtool cnf` of a file
+with five times the gates for 10 steps. The table has processor seconds, the least of RUNS (3), and the greatest peak of memory."""
 import sys
 
 from measuring import CHECK, EDIT, TOOL, heads, make, new_folder, numbers, row, run

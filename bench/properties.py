@@ -1,9 +1,10 @@
 #!/usr/bin/env python3
 """Measures bin/aigprove --each on designs with 32 properties: run properties [COUNT]
 
-COUNT designs (all) are measured. Each has instances of four of those of tests/each, without the properties that nobody decides. A row has seconds by the clock and of
-processors: of --each, of --property N for one property after the other, and of ABC's `pdr -a`, which checks nothing; and how many fail of
-how many. Half the processor time of one after the other is wanted at most, and 1.2 times the time of `pdr -a` by the clock, and 2 s."""
+The script measures COUNT designs (by default all). Each contains instances of four designs of tests/each, without the properties that no
+engine decides. A row has the wall-clock and processor seconds of --each, of --property N for one property after the other, and of ABC's
+`pdr -a`, which doesn't check its answers. It also has the numbers of failing and of all properties. The goal is that --each takes at most
+half the processor time of one property after the other, and at most 1.2 times the wall-clock time of `pdr -a`, plus 2 s."""
 import re
 import time
 
@@ -11,18 +12,18 @@ from measuring import PROVE, heads, new_folder, numbers, row, run
 
 import many_properties
 
-# How many properties a design has.
+# The number of properties of a design.
 COUNT = 32
 
 
 def parts():
-    """Designs without assumptions, four at a time, each a step further."""
+    """Yields groups of four designs without assumptions. Each group begins one design later than the one before."""
     made = [design for design in many_properties.designs() if not design.of("assume")]
     return [(made + made)[i:i + 4] for i in range(len(made))]
 
 
 def text(designs):
-    """A design with an instance of each of these, whose properties are the first ones."""
+    """Returns a design with an instance of each given design, with the first properties of each."""
     left, modules, ports, lines = COUNT, [], ["input clk"], []
     for i, design in enumerate(designs):
         asserted = design.of("assert")[:left]
@@ -37,7 +38,7 @@ def text(designs):
 
 
 def timed(words, out):
-    """Seconds by the clock and of processors of a program."""
+    """Returns the wall-clock and processor seconds of a program."""
     begun = time.monotonic()
     _, used, _ = run(words, out)
     return time.monotonic() - begun, used

@@ -1,9 +1,10 @@
 #!/usr/bin/env python3
-"""Measures what engines side by side cost an answer that pdr alone gives: run racing [TIMES]
+"""Measures the cost of running all engines side by side if only pdr has an answer: run racing [TIMES]
 
-For designs of tests/verilog that ABC's pdr decides after some seconds, and no other engine: the seconds of ABC's pdr, of bin/aigprove with the
-engine pdr alone, and of bin/aigprove with all engines, in parentheses those of processors with all that they run. Each is the best of TIMES (3)
-runs by turns, of the file that yosys makes of the design. An answer takes as long as pdr does, its check, and what all the engines cost beside."""
+The designs are those of tests/verilog that ABC's pdr decides after some seconds, and no other engine decides. A row has the seconds of
+ABC's pdr, of bin/aigprove with only the engine pdr, and of bin/aigprove with all engines. The processor seconds of all programs are in
+parentheses. Each number is the best of TIMES (3) runs, which take turns, on the file that yosys writes for the design. The time of an
+answer consists of the time of pdr, of its check, and of the cost of the other engines."""
 import os
 import pathlib
 import shutil
@@ -19,7 +20,7 @@ ABC = "berkeley-abc"
 
 
 def took(words):
-    """The seconds of a run, and those of processors with all that it runs; it has to find that the design is safe."""
+    """Returns the seconds of a run, and the processor seconds of all its programs. The run has to find that the design is safe."""
     begun = time.monotonic()
     child = subprocess.Popen(list(map(str, words)), stdout=subprocess.PIPE, stderr=subprocess.DEVNULL)
     printed = child.stdout.read()
@@ -30,7 +31,7 @@ def took(words):
 
 
 def measure(name, parameters, times, folder):
-    """A row for a design."""
+    """Prints a row for a design."""
     words = [word for it in parameters for word in ("--parameter", it)]
     kept = folder / "kept"
     subprocess.run([PROVE, *PROGRAMS, "--tasks", "--keep", kept, *words, TESTS / "verilog" / f"{name}.v"],

@@ -1,14 +1,14 @@
 #!/usr/bin/env python3
 """Measures `aigcheck` on proofs of a solver: run refutations AIGTOOL AIGCHECK [SOLVER [BITS ..]]
 
-AIGTOOL and AIGCHECK are the built programs, crates/NAME/out/NAME after `rt run` in crates/NAME. SOLVER (cadical) is given
-`-q --no-binary FILE PROOF` for a proof in the DRAT format, and `--lrat=1` as well for one in the LRAT format, which cadical
-has from version 1.7 on: where it refuses that word, the rows of that format are left out.
+AIGTOOL and AIGCHECK are the built programs, crates/NAME/out/NAME after `rt run` in crates/NAME. SOLVER (cadical) gets the arguments `-q
+--no-binary FILE PROOF` for a proof in the DRAT format, and additionally `--lrat=1` for a proof in the LRAT format, which cadical supports
+from version 1.7 on. If it refuses this option, the rows of this format are left out.
 
-For each of BITS (6 7 8) two multipliers that add up their rows in other orders are asked to differ. Each row has the seconds of
-processor time of the solver and of the check, what part the one is of the other, the proof's size, and the check's peak memory,
-which is seen only above this script's own, some 14 MiB; and the seconds of another checker on the same clauses and proof, drat-trim or
-lrat-check, where that is installed, which is said at first.
+For each of BITS (6 7 8), the clauses state that two multipliers, which add their rows in different orders, have different results. Each
+row has the processor seconds of the solver and of the check, their ratio, the size of the proof, and the peak of memory of the check. A
+peak below that of this script, some 14 MiB, can't be measured. If drat-trim or lrat-check is installed, a row also has the seconds of
+this checker for the same clauses and proof. The first line states whether one is installed.
 """
 import itertools
 import shutil
@@ -18,7 +18,7 @@ from circuits import multipliers
 from measuring import heads, new_folder, row, run
 
 FORMS = [("DRAT", []), ("LRAT", ["--lrat=1"])]
-# Other checkers, which are given the clauses and a proof.
+# Other checkers, whose arguments are the clauses and a proof.
 OTHERS = {"DRAT": "drat-trim", "LRAT": "lrat-check"}
 
 

@@ -1,8 +1,8 @@
 #!/usr/bin/env python3
 """Measures the size of aigprove's package: run sizes [FOLDER]
 
-Prints the lines of code of each module, without docstrings, comments and blank lines, and the modules and functions that are longer than
-they may be. Ends with status 1 if there are such. FOLDER is lib/aigprove."""
+Prints the number of lines of code of each module, without docstrings, comments and blank lines, and the modules and functions that are
+too long. Ends with status 1 if there are any. The default of FOLDER is lib/aigprove."""
 import argparse
 import ast
 import io
@@ -11,7 +11,7 @@ import sys
 import tokenize
 
 PACKAGE = pathlib.Path(__file__).resolve().parent.parent / "lib" / "aigprove"
-# How many lines a module and a function may have, in whole.
+# The largest numbers of lines of a module and of a function.
 MODULE, FUNCTION = 400, 40
 SPACE = {tokenize.COMMENT, tokenize.NL, tokenize.NEWLINE, tokenize.INDENT, tokenize.DEDENT, tokenize.ENCODING, tokenize.ENDMARKER}
 DEFINITIONS = (ast.FunctionDef, ast.AsyncFunctionDef)
@@ -27,7 +27,7 @@ def docstrings(tree):
 
 
 def lines_of_code(text):
-    """Returns how many lines of a module have code."""
+    """Returns the number of lines of a module that contain code."""
     found = set()
     for token in tokenize.generate_tokens(io.StringIO(text).readline):
         if token.type not in SPACE:

@@ -1,9 +1,9 @@
 #!/usr/bin/env python3
-"""Measures the processor time of aigprove itself on files in AIGER form: run start [COUNT [FILE ..]]
+"""Measures the processor time of aigprove itself on AIGER files: run start [COUNT [FILE ..]]
 
-That is the time of its own process, without those that it starts: engines, the solver and aigcheck. Prints the median of COUNT (20) runs
-for each file, of those of tests/designs, and of `--version`. A run has two seconds, since what it does afterwards is to wait. Ends with
-status 1 if a median is more than a tenth of a second."""
+This is the time of its own process, without the processes that it starts: engines, the solver and aigcheck. The script prints the median
+of COUNT (20) runs for each file, by default those of tests/designs, and for `--version`. A run may take two seconds, because after that
+aigprove only waits. The script ends with status 1 if a median is more than a tenth of a second."""
 import argparse
 import os
 import pathlib
@@ -16,7 +16,7 @@ MOST = 0.1
 
 
 def used(process):
-    """Returns the seconds of processor time that a process used itself, once it ended, before it is reaped."""
+    """Waits until a process has ended, and returns its own processor seconds. The process isn't reaped yet."""
     os.waitid(os.P_PID, process.pid, os.WEXITED | os.WNOWAIT)
     fields = pathlib.Path(f"/proc/{process.pid}/stat").read_text(encoding="ascii").rpartition(")")[2].split()
     process.wait()
@@ -24,7 +24,7 @@ def used(process):
 
 
 def median(count, words):
-    """Returns the median of some runs of aigprove with these words."""
+    """Returns the median of several runs of aigprove with the given arguments."""
     times = []
     for _ in range(count):
         times.append(used(subprocess.Popen([TOP / "bin" / "aigprove", *words], stdout=subprocess.DEVNULL, stderr=subprocess.DEVNULL)))

@@ -1,8 +1,9 @@
 #!/usr/bin/env python3
 """Measures bin/aigprove on the designs in Verilog of tests/verilog and examples: run verilog [OTHER [TIMES]]
 
-For each design: processor seconds of this tree's aigprove and of that in the tree OTHER, with all that they run, each the best of TIMES
-(3) runs by turns, both with this tree's programs and the same engines. The last row has the sums over the designs that both answer."""
+A row has, for a design, the processor seconds of the aigprove in this tree and of that in the tree OTHER, including all programs that
+they run. Each number is the best of TIMES (3) runs, which take turns. Both use the programs of this tree and the same engines. The last
+row has the sums over the designs that both answer."""
 import pathlib
 import sys
 
@@ -13,7 +14,7 @@ ANSWERS = (10, 20)
 
 
 def seconds(tree, design):
-    """Processor seconds of one run, with all that it runs; None where it gives no answer."""
+    """Returns the processor seconds of one run with all programs that it runs, or None if there is no answer."""
     status, took, _ = run([tree / "bin" / "aigprove", *WORDS, design])
     return took if status in ANSWERS else None
 

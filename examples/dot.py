@@ -2,9 +2,9 @@
 """Prints the circuit of a small AIGER file, text or binary, as a graph for Graphviz: dot.py FILE | dot -Tsvg > circuit.svg
 
 Inputs are triangles, latches are boxes, and gates are circles. Outputs, bad state properties and constraints are at the ends of the
-graph. Each item has its name in FILE. If it has none, it has the letter of its kind and its position. The box of a latch contains its
-initial value, which is ? if the latch is open, and a bold edge leads to it from its next value. An inverted edge is dashed. Gates have
-their numbers in FILE.
+graph. Each item is labelled with its name in FILE. If it has no name, its label consists of the letter of its kind and its position. The
+box of a latch contains its initial value, which is ? if the latch is open, and a bold edge leads to it from its next value. An inverted
+edge is dashed. Gates have their numbers in FILE.
 
 The exit status is 0 if the graph was printed, 1 if there was an error, which is printed in one line, and 2 if the arguments aren't valid.
 """

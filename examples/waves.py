@@ -2,11 +2,11 @@
 """Prints the run of a witness as a value change dump (VCD, IEEE 1364), which wave viewers such as gtkwave read.
 
 FILE is an AIGER file, text or binary. WITNESS is a witness in the format of docs/reference/witnesses.md. Inputs, latches, outputs, bad
-state properties and constraints become signals, in a scope for each kind. A signal has its name in FILE. If it has none, its name
-consists of the letter of its kind and its position. Bits with the names `d[0]`, `d[1]` and so on become one word `d`, and the parts of a
-name `a.b.d` become scopes. A value is 0, 1 or x, from a simulation with three values. Step t is at time t, and the dump ends one time
-unit after the last step. In a name, each byte that isn't printable, and the percent sign, is replaced by a percent sign and two
-hexadecimal digits.
+state properties and constraints become signals, in a scope for each kind. A signal gets the name that it has in FILE. If it has no name
+there, its new name consists of the letter of its kind and its position. Bits with the names `d[0]`, `d[1]` and so on become one word `d`,
+and the parts of a name `a.b.d` become scopes. A value is 0, 1 or x, from a simulation with three values. Step t is at time t, and the
+dump ends one time unit after the last step. In a name, each byte that isn't printable, and the percent sign, is replaced by a percent
+sign and two hexadecimal digits.
 
 The program doesn't check the run. Use `aigcheck run` to check that it starts in an initial state, meets the constraints and is bad at its
 last step.

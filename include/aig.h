@@ -46,7 +46,7 @@ enum aig_status {
   AIG_DONE = 0,       /* The answer was returned, or the checked statement is true. */
   AIG_SMALL = 1,      /* The answer doesn't fit `out`. `*needed` is its length. */
   AIG_MEMORY = 2,     /* malloc or realloc returned null. This isn't a statement about the files. */
-  AIG_STREAM = 3,     /* Reserved: no call returns it. */
+  AIG_STREAM = 3,     /* This status is reserved. No call returns it. */
   AIG_MANY_STEPS = 4, /* `k` is 2^32 or more. */
   AIG_TOO_LARGE = 5,  /* The circuit with its further steps may pass the limit. */
   AIG_NO_BADS = 6,    /* There is no bad state property, so there is nothing to check. */
@@ -107,8 +107,8 @@ enum aig_status {
   AIG_PROOF_UNFINISHED = 49, /* The proof ends before the empty clause. */
 
   /* A witness is refused. */
-  AIG_WITNESS_STATUS = 60,   /* The first line isn't 1. */
-  AIG_WITNESS_PROPERTY = 61, /* The second line isn't b (for a lasso also j) and the number of a property. */
+  AIG_WITNESS_STATUS = 60,   /* The first line of the witness isn't 1. */
+  AIG_WITNESS_PROPERTY = 61, /* The second line of the witness isn't b (for a lasso also j) and the number of a property. */
   AIG_WITNESS_VALUES = 62,   /* A line of values is malformed, or the dot at the end is missing. */
   AIG_WITNESS_NONE = 63,     /* The file has only comments. */
   AIG_WITNESS_BAD = 64,      /* The witness is about a bad state property, but the call needs one about a justice property. */
@@ -274,7 +274,7 @@ uint32_t aig_check_refuted(const uint8_t *file, size_t file_len, uint64_t k, boo
                            size_t proof_len);
 
 /* Returns AIG_DONE only if no run from an initial state, under the constraints at each step, reaches a bad state at a step from 0 to `k`.
- * `proof` has to refute the clauses of `aig_bounded`. It isn't read if the output of `aig_question` is the constant false. */
+ * `proof` has to refute the clauses of `aig_bounded`. The proof isn't read if the output of `aig_question` is the constant false. */
 uint32_t aig_check_refuted_to(const uint8_t *file, size_t file_len, uint64_t k, bool optimize, const uint8_t *proof,
                               size_t proof_len);
 
@@ -370,8 +370,8 @@ uint32_t aig_check_no_lasso(const uint8_t *file, size_t file_len, size_t j, uint
                             size_t proof_len);
 
 /* Returns AIG_DONE only if a file's justice property `j`, counted from 0, has no fair lasso of at most `k` + 1 steps. `proof` has to
- * refute the clauses of `aig_bounded` for the text that `aig_live` returns. It isn't read if the output of `aig_question` for this text
- * is the constant false. */
+ * refute the clauses of `aig_bounded` for the text that `aig_live` returns. The proof isn't read if the output of `aig_question` for this
+ * text is the constant false. */
 uint32_t aig_check_no_lasso_to(const uint8_t *file, size_t file_len, size_t j, uint64_t k, bool optimize, const uint8_t *proof,
                                size_t proof_len);
 
@@ -382,8 +382,8 @@ uint32_t aig_check_no_fair_run(const uint8_t *file, size_t file_len, size_t j, u
                                const uint8_t *base, size_t base_len, bool step_optimize, const uint8_t *step, size_t step_len);
 
 /* Returns the text form of the miter of two files with the same numbers of inputs, outputs and bad state properties. The miter is a
- * circuit in which both files read the same inputs, with the constraints of both. It is bad if their outputs or bad state properties
- * differ. */
+ * circuit in which both files read the same inputs, with the constraints of both. The miter is bad if the outputs or bad state properties
+ * of the two files differ. */
 uint32_t aig_miter(const uint8_t *file, size_t file_len, const uint8_t *other, size_t other_len, uint8_t *out, size_t out_len,
                    size_t *needed);
 

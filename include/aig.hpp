@@ -37,7 +37,7 @@ struct Message {
   const char *c_str() const { return text; }
 };
 
-/* The status of a call, which is one of aig.h. It converts to true exactly if the status is AIG_DONE. */
+/* The status of a call, with a number from `aig_status`. It converts to true exactly if the status is AIG_DONE. */
 class [[nodiscard]] Status {
   std::uint32_t code_;
 
@@ -308,13 +308,13 @@ class Circuit : public Held<aig_circuit_t, aig_circuit_free> {
   }
   static std::uint32_t literal(Signal signal) noexcept { return signal.edge_.literal(); }
 
-  /* Makes a call that returns an edge for two edges. */
+  /* Makes a call that takes two edges and returns an edge. */
   Result<Edge> gate(Signal::Gate *call, Signal a, Signal b) noexcept {
     if (Status status = of(a); !status) return status;
     if (Status status = of(b); !status) return status;
     return edge(told<std::uint32_t>(call, literal(a), literal(b)));
   }
-  /* Makes a call that returns an edge for several edges. */
+  /* Makes a call that takes several edges and returns an edge. */
   template <class Call> Result<Edge> gate(Call call, View<Edge> edges) noexcept {
     return edge(told<std::uint32_t>(call, literals(edges), edges.size()));
   }
@@ -403,7 +403,7 @@ public:
   Result<Edge> trivial_new_and_node(Signal a, Signal b) noexcept { return gate(aig_circuit_trivial_new_and_node, a, b); }
   /* Returns the and of two edges. If one edge is constant, or both have the same node, no gate is added. */
   Result<Edge> new_and_node(Signal a, Signal b) noexcept { return gate(aig_circuit_new_and_node, a, b); }
-  /* Adds a gate for the or of two edges. The returned edge is the inverse of a gate for the and of their inverses. */
+  /* Adds a gate for the and of the inverses of two edges, and returns the inverse of this gate, which is the or of the two edges. */
   Result<Edge> trivial_new_or_node(Signal a, Signal b) noexcept { return gate(aig_circuit_trivial_new_or_node, a, b); }
   /* Returns the or of two edges, which is the inverse of `new_and_node` of their inverses. */
   Result<Edge> new_or_node(Signal a, Signal b) noexcept { return gate(aig_circuit_new_or_node, a, b); }

@@ -10,7 +10,7 @@
  * In addition to the requirements in aig.h, the caller has to meet these:
  * - A handle is initialised with AIG_NONE. The caller neither reads nor writes its member, and doesn't copy a handle that holds something.
  *   A handle may be moved, if its old location isn't used again.
- * - If a call takes two handles, they are different. A handle isn't in memory that the call reads or writes for another reason.
+ * - If a call takes two handles, they are different. The memory of a handle doesn't overlap other memory of the call.
  * - Only one call at a time is made on a handle, even if the call only reads. So two threads must not read the same circuit at the same
  *   time. `aig_circuit_clone` creates a second circuit for a second thread, and `aig_simulation_clone` a second simulation. A handle may
  *   be passed from one thread to another, if a lock or a join synchronises them.
@@ -143,7 +143,7 @@ uint32_t aig_circuit_trivial_new_and_node(aig_circuit_t *circuit, uint32_t a, ui
  * and the returned edge is a constant or one of the two. */
 uint32_t aig_circuit_new_and_node(aig_circuit_t *circuit, uint32_t a, uint32_t b, uint32_t *edge);
 
-/* Adds a gate for the or of two edges. The returned edge is the inverse of a gate for the and of their inverses. */
+/* Adds a gate for the and of the inverses of two edges, and returns the inverse of this gate, which is the or of the two edges. */
 uint32_t aig_circuit_trivial_new_or_node(aig_circuit_t *circuit, uint32_t a, uint32_t b, uint32_t *edge);
 
 /* Returns the or of two edges, which is the inverse of `aig_circuit_new_and_node` of their inverses. */

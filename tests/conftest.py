@@ -1,11 +1,12 @@
 """Fixtures and rules that all tests share.
 
-Each test counts its checks with the fixture `checks`; a test that makes none by it counts as one.
-The last line of a run adds the counts up, and `--by-module` prints them, with seconds, by module.
+Each test counts its checks with the fixture `checks`. A test that doesn't use the fixture counts as
+one check. The last line of a run has the sums of the counts, and `--by-module` prints the counts
+and the seconds of each module.
 
-A marker names each tool that may be missing (pytest.ini has the list). A test whose tool is missing
-is skipped, and a skip for any other reason is a failure. `-m "not tools"` leaves out all tests that
-need such tools.
+There is a marker for each tool that may be missing (pytest.ini has the list). If a tool is missing,
+the tests that need it are skipped. A skip for any other reason counts as a failure. `-m "not
+tools"` leaves out all tests that need such tools.
 """
 from __future__ import annotations
 
@@ -29,11 +30,11 @@ import strategies
 import tables
 from hypothesis.database import DirectoryBasedExampleDatabase
 
-# The bytecode of tests is kept even where Python is told to keep none: without it pytest would take
-# most of its start to compile all modules.
+# The bytecode of tests is kept even if Python is configured not to write bytecode. Without it,
+# pytest would spend most of its start on compiling all modules.
 sys.dont_write_bytecode = False
 PROGRAMS = ["aigtool", "aigedit", "aigcheck", "aig_script"]
-# The programs that each tool is made of.
+# The programs of each tool.
 TOOLS = {
     "abc": ["berkeley-abc"],
     "cadical": ["cadical"],
@@ -54,13 +55,14 @@ TOOLS = {
     "yosys": ["yosys"],
     "zsh": ["zsh"],
 }
-# Files that a tool needs beside its programs.
+# Files that a tool needs in addition to its programs.
 FILES = {"cpp": pathlib.Path("/usr/include/cadical.hpp")}
-# What a test may lack that is no program: the test finds out itself, and skips.
+# Things other than programs that may be missing. A test detects this itself, and skips.
 CONDITIONS = ["acl", "numpy", "pip", "root"]
-# Where pytest and hypothesis keep what failed: the same test tries it first when it runs again.
+# The folder in which pytest and hypothesis store failing cases. The same test tries them first when
+# it runs again.
 FAILED = harness.TESTS / "failed"
-# How many seconds a command may take that makes what tests are given.
+# The number of seconds that a command may take which builds something for tests.
 SECONDS = 1800
 repeated = reasons.Repeated()
 
@@ -79,7 +81,7 @@ def pytest_addoption(parser: pytest.Parser) -> None:
 
 
 def pytest_configure(config: pytest.Config) -> None:
-    """Chooses how many random cases are tried, and where those that fail are kept."""
+    """Sets how many random cases are tried, and where failing cases are stored."""
     strategies.is_long = bool(config.getoption("--long"))
     strategies.seed = int(config.getoption("--seed"))
     fresh_root.lower = pathlib.Path(str(config.getoption("--root"))).resolve()
@@ -95,7 +97,7 @@ def pytest_configure(config: pytest.Config) -> None:
 
 @pytest.hookimpl(hookwrapper=True)  # type: ignore[misc]
 def pytest_collection() -> Generator[None, None, None]:
-    """Keeps the garbage collector from looking through thousands of tests, which stay."""
+    """Keeps the garbage collector from traversing thousands of tests, which are never freed."""
     gc.disable()
     yield
     gc.enable()
@@ -157,7 +159,7 @@ def pytest_runtest_makereport(item: pytest.Item) -> Generator[None, Any, None]:
 
 @pytest.hookimpl(tryfirst=True)  # type: ignore[misc]
 def pytest_report_teststatus(report: Any) -> tuple[str, str, str] | None:
-    """Counts an error apart that was told of another test before."""
+    """Counts an error separately if it was already printed for another test."""
     return (reasons.AS_BEFORE, "E", "ERROR") if repeated.is_repeated(report) else None
 
 
@@ -168,7 +170,7 @@ def pytest_collectreport(report: pytest.CollectReport) -> None:
 
 
 class Sums:
-    """The tests of a module, the checks that passed and failed, and the seconds that all took."""
+    """The tests of a module, the checks that passed and failed, and the seconds of all tests."""
 
     def __init__(self) -> None:
         self.tests = self.passed = self.failed = 0
@@ -183,7 +185,7 @@ class Sums:
 
 
 def sums_of(reporter: Any) -> dict[str, Sums]:
-    """Returns what was counted, by module."""
+    """Returns the counts, by module."""
     found: dict[str, Sums] = collections.defaultdict(Sums)
     for reports in reporter.stats.values():
         for report in reports:
@@ -193,7 +195,7 @@ def sums_of(reporter: Any) -> dict[str, Sums]:
 
 
 def pytest_terminal_summary(terminalreporter: Any, config: pytest.Config) -> None:
-    """Prints how many checks were made, and why tests failed or were skipped."""
+    """Prints the number of checks, and the reasons why tests failed or were skipped."""
     found = sums_of(terminalreporter)
     if config.getoption("--by-module"):
         for module, own in found.items():
@@ -214,8 +216,8 @@ def pytest_terminal_summary(terminalreporter: Any, config: pytest.Config) -> Non
 
 
 def make(*words: str | os.PathLike[str]) -> None:
-    """Runs a command that makes what tests are given. Where it fails, they fail with the last line
-    that it says; all that it says is shown with the first of them."""
+    """Runs a command that builds something which tests need. If the command fails, these tests fail
+    with the last line of its output. The complete output is printed for the first of them."""
     status, printed, said = harness.run(words, timeout=SECONDS)
     if status != 0:
         told = (printed + said).decode("utf-8", "replace").strip()
@@ -234,40 +236,40 @@ def built(config: pytest.Config, name: str) -> pathlib.Path:
 
 @pytest.fixture(scope="session")
 def programs(request: pytest.FixtureRequest) -> dict[str, pathlib.Path]:
-    """The paths of aigtool, aigedit and aigcheck, by name."""
+    """Returns the paths of aigtool, aigedit and aigcheck, by name."""
     return {name: built(request.config, name) for name in PROGRAMS[:3]}
 
 
 @pytest.fixture(scope="session")
 def aigtool(request: pytest.FixtureRequest) -> pathlib.Path:
-    """The path of aigtool."""
+    """Returns the path of aigtool."""
     return built(request.config, "aigtool")
 
 
 @pytest.fixture(scope="session")
 def aigedit(request: pytest.FixtureRequest) -> pathlib.Path:
-    """The path of aigedit."""
+    """Returns the path of aigedit."""
     return built(request.config, "aigedit")
 
 
 @pytest.fixture(scope="session")
 def aigcheck(request: pytest.FixtureRequest) -> pathlib.Path:
-    """The path of aigcheck."""
+    """Returns the path of aigcheck."""
     return built(request.config, "aigcheck")
 
 
 @pytest.fixture(scope="session")
 def aig_script(request: pytest.FixtureRequest) -> pathlib.Path:
-    """The path of aig_script."""
+    """Returns the path of aig_script."""
     return built(request.config, "aig_script")
 
 
 @pytest.fixture(scope="session")
 def library(request: pytest.FixtureRequest) -> Iterator[pathlib.Path]:
-    """A folder with libaig.a and libaig.so, which are built if that wasn't done yet."""
+    """Returns a folder with libaig.a and libaig.so, and builds them if necessary."""
     given = request.config.getoption("--library")
     with harness.new_folder() as made, open(archive.__file__, encoding="utf-8") as held:
-        # One of several workers builds it.
+        # Only one of several workers builds the library.
         fcntl.flock(held, fcntl.LOCK_EX)
         if given:
             make(harness.TOP / "lib" / "clients.py")
@@ -281,7 +283,7 @@ def library(request: pytest.FixtureRequest) -> Iterator[pathlib.Path]:
 
 @pytest.fixture
 def folder() -> Iterator[pathlib.Path]:
-    """A new folder, which is removed again; other users may look into it."""
+    """Yields a new folder, which other users can read, and removes it after the test."""
     with harness.new_folder() as made:
         os.chmod(made, 0o755)
         yield made

@@ -495,8 +495,8 @@ class Circuit(_Held):
         return map(Node._make, struct.iter_unpack("@III", _view(_Node, items, count)))
 
     def latchs_buffer(self) -> memoryview:
-        """Returns the latches as C structures. The format of the view has the names of their
-        fields."""
+        """Returns the latches as C structures. The format of the memory view contains the names of
+        their fields."""
         items, count = self._items(_Latch, "latchs")
         return memoryview((_Latch * count).from_buffer(items))
 

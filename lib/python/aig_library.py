@@ -80,16 +80,16 @@ def _given(data: bytes) -> tuple[bytes, int]:
 
 
 def _steps(k: int) -> int:
-    """Returns the number of a step. If it is too large for a call, returns a number that the call
-    refuses."""
+    """Returns the argument of a call for the number of a step. If the number is too large for C,
+    returns one that the call refuses."""
     if k < 0:
         raise ValueError("a step has a number from 0 on")
     return min(k, 1 << 32)
 
 
 def _number(n: int) -> int:
-    """Returns the number of an output or property, or a count. If it is too large for a call,
-    returns the largest possible number, because no file has so many items."""
+    """Returns the argument of a call for the number of an output or property, or for a count. If it
+    is too large for C, returns the largest possible number, because no file has so many items."""
     if n < 0:
         raise ValueError("a number is from 0 on")
     return min(n, (1 << 64) - 1)

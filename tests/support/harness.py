@@ -1,5 +1,5 @@
-"""What the tests stand on: where the programs are, how one is run, spelled bytes, and checks that
-are counted."""
+"""Common parts of all tests: the paths of programs, running a program, escaped bytes, and counted
+checks."""
 from __future__ import annotations
 
 import argparse
@@ -19,13 +19,13 @@ import tempfile
 from collections.abc import Callable, Iterator, Mapping, Sequence
 from typing import Any
 
-# A word of a command.
+# An argument of a command.
 Word = str | bytes | os.PathLike[str]
 TESTS = pathlib.Path(__file__).resolve().parent.parent
 TOP = TESTS.parent
 # So that scripts find the package of aigprove.
 sys.path.append(str(TOP / "lib"))
-# What each program says of wrong words.
+# The message of each program about wrong arguments.
 USAGE = {
     "aigtool": (
         b"usage: aigtool text FILE, binary FILE OUT, strash FILE, cnf FILE K [raw], query FILE K"
@@ -57,8 +57,8 @@ TOOL, EDIT, CHECK = (
     str(TOP / "crates" / name / "out" / name) for name in ["aigtool", "aigedit", "aigcheck"]
 )
 PROVE = str(TOP / "bin" / "aigprove")
-# What makes another form of a circuit by ABC, where latches that are 1 at first are inverted behind
-# it.
+# The commands of ABC that write a circuit in another format, with an inverter after each latch that
+# is initially 1.
 RESYN = (
     "balance; rewrite; refactor; balance; rewrite; rewrite -z; balance; refactor -z; rewrite -z;"
     " balance"
@@ -73,11 +73,11 @@ FORMS = {
     "retime -M 2": "retime -M 2; strash",
     "dretime, dc2": "dretime; strash; dc2",
 }
-# How many seconds a program has to end.
+# The number of seconds in which a program has to end.
 SECONDS = 100
 REPEATED = re.compile(r"\{([^{}]*)\}\*(\d+)")
 SPELLED = re.compile(r"\\n|\\x([0-9a-f]{2})")
-# The file that a program names behind its own name in a line, and the place there.
+# The name of a file and the location in it, which follow the name of the program in a message.
 NAMED = re.compile(
     (
         rb"^(aigcheck|aigedit): (?!query: |window: |base: |step: |reset: |transition: |property:"
@@ -85,13 +85,13 @@ NAMED = re.compile(
     ),
     re.M,
 )
-# What a program tells of files beside its answer.
+# The notes about files that a program prints with its answer.
 NOTICES = [
     b"justice and fairness were not looked at", b"compared only on runs that its constraints allow",
 ]
 BESIDE = re.compile(rb"^aig(?:check|edit): (?:.*: )?(?:%s)\n" % b"|".join(NOTICES), re.M)
-# How aigcheck's line ends where a proof is refused as one of other clauses is, and what it tells
-# behind that.
+# The end of aigcheck's message if it refuses a proof that may belong to other clauses, and the
+# advice that follows.
 MISFITS = (
     b"proof step does not follow\n",
     b"proof step has not the RAT property\n",
@@ -106,15 +106,15 @@ ADVICE = (
 
 
 def compile_aigprove() -> None:
-    """Compiles aigprove's modules, as install does, before it is measured: here Python may be told
-    to keep none."""
+    """Compiles aigprove's modules, as ./install does, before aigprove is measured. Python may be
+    configured not to write bytecode by itself."""
     compileall.compile_dir(TOP / "lib" / "aigprove", quiet=1)
 
 
 def parser(doc: str | None, *programs: str, **numbers: int) -> argparse.ArgumentParser:
-    """The words of a script, with an option for the path of each of these programs, as `--aigtool
-    PATH`: that which `rt run` builds; and with these numbers, of which any at the end may be left
-    out."""
+    """Returns the arguments of a script. For each of the given programs there is an option for its
+    path, such as `--aigtool PATH`, whose default is the program that `rt run` builds. The given
+    numbers follow, and the last ones may be left out."""
     made = argparse.ArgumentParser(
         description=doc, formatter_class=argparse.RawDescriptionHelpFormatter
     )
@@ -133,20 +133,20 @@ def parser(doc: str | None, *programs: str, **numbers: int) -> argparse.Argument
 
 
 class Checks:
-    """Counts the checks of a test. The first that fails ends it."""
+    """Counts the checks of a test. The first check that fails ends the test."""
 
     def __init__(self) -> None:
         self.passed = 0
 
     def check(self, holds: object, what: str) -> None:
-        """Fails with these words unless something holds."""
+        """Fails with the given message unless a condition is true."""
         __tracebackhide__ = True
         if not holds:
             raise AssertionError(what)
         self.passed += 1
 
     def wants(self, what: object, wanted: object, given: object) -> None:
-        """Fails unless what is given is what is wanted; `what` names the case."""
+        """Fails unless the given value is the wanted one. `what` names the case."""
         __tracebackhide__ = True
         if given != wanted:
             raise AssertionError(f"{what}\n  wanted {wanted}\n  given  {given}")
@@ -154,8 +154,8 @@ class Checks:
 
 
 def run(words: Sequence[Word], **how: Any) -> tuple[int | None, bytes, bytes]:
-    """The status of a program, what it prints, and what it says on standard error, as bytes. One
-    that doesn't end has no status."""
+    """Runs a program, and returns its status, its standard output and its standard error, as bytes.
+    If the program doesn't end, the status is None."""
     streams = {"stdout": subprocess.PIPE, "stderr": subprocess.PIPE}
     options: dict[str, Any] = {**streams, "timeout": SECONDS, **how}
     try:
@@ -166,24 +166,25 @@ def run(words: Sequence[Word], **how: Any) -> tuple[int | None, bytes, bytes]:
 
 
 def unnamed(said: bytes) -> bytes:
-    """What a program says, without the files that it names and the places there."""
+    """Returns a message of a program without the names of files and the locations in them."""
     return NAMED.sub(rb"\1: ", said)
 
 
 def alone(said: bytes) -> bytes:
-    """What a program says, without what it tells of files beside its answer."""
+    """Returns the messages of a program without the notes about files that follow its answer."""
     return BESIDE.sub(b"", said)
 
 
 def advised(said: bytes) -> bytes:
-    """What a program says in a line, with what aigcheck tells behind it."""
+    """Returns a message of a program, with the advice that aigcheck prints after it."""
     return said + ADVICE * said.endswith(MISFITS)
 
 
 def output(
     words: Sequence[Word], statuses: Sequence[int] = (0,), **how: Any
 ) -> str:
-    """What a program prints to standard output, as a text, where it has one of these statuses."""
+    """Runs a program, which has to end with one of the given statuses, and returns its standard
+    output as text."""
     status, printed, said = run(words, **how)
     if status not in statuses:
         why = f"ended with status {status}: {said.decode('utf-8', 'replace')}"
@@ -192,25 +193,28 @@ def output(
 
 
 def build(words: Sequence[Word]) -> None:
-    """Runs a compiler, which takes longer than what it makes where much else is run beside it."""
+    """Runs a compiler, which gets more time than other programs, because the machine may be busy.
+    """
     output(words, timeout=10 * SECONDS)
 
 
 def shown_again(folder: str | os.PathLike[str]) -> str | None:
-    """What check.sh prints of what aigprove kept in a folder, as a text; None where it fails."""
+    """Runs check.sh in a folder that aigprove wrote, and returns its output as text, or None if it
+    fails."""
     environment = {**os.environ, "AIGCHECK": CHECK, "AIGEDIT": EDIT}
     status, printed, _ = run([os.path.join(folder, "check.sh")], env=environment)
     return printed.decode() if status == 0 else None
 
 
 def limit(what: int, count: int) -> Callable[[], None]:
-    """What limits a process: a call for `preexec_fn`."""
+    """Returns a function for `preexec_fn` that limits a process."""
     return lambda: resource.setrlimit(what, (count, count))
 
 
 def limit_files(count: int, ignore: bool = True, most: int | None = None) -> Callable[[], None]:
-    """Limits the size of files. A write past that fails where the signal is ignored, and by default
-    ends the program by it. The process may raise the limit to `most`."""
+    """Returns a function that limits the size of files. A write beyond the limit fails if the
+    signal is ignored. By default, the signal ends the program. The process may raise the limit to
+    `most`."""
 
     def before() -> None:
         if ignore:
@@ -221,8 +225,8 @@ def limit_files(count: int, ignore: bool = True, most: int | None = None) -> Cal
 
 
 def shim(source: str, folder: pathlib.Path) -> pathlib.Path:
-    """A library that LD_PRELOAD puts before the system's, of a file of C of the folder tests. The
-    compiler is $CC, cc, clang or gcc."""
+    """Builds a library from a C file in the folder tests, which LD_PRELOAD loads before the
+    system's libraries, and returns its path. The compiler is $CC, cc, clang or gcc."""
     library = folder / f"{pathlib.Path(source).stem}.so"
     compiler = next(filter(shutil.which, [os.environ.get("CC", "cc"), "clang", "gcc"]), "cc")
     build([compiler, "-O2", "-shared", "-fPIC", "-o", library, TESTS / source, "-ldl"])
@@ -235,7 +239,8 @@ def write_files(folder: pathlib.Path, files: Mapping[str, bytes]) -> None:
 
 
 def repeated(line: str) -> str:
-    """The line with each piece in braces, `{PIECE}*N`, N times, and 2, 4, .. for a `#` in it."""
+    """Returns the line with each piece in braces, `{PIECE}*N`, repeated N times. A `#` in a piece
+    becomes 2, 4 and so on."""
 
     def all_of(piece: re.Match[str]) -> str:
         return "".join(piece[1].replace("#", str(2 * i)) for i in range(1, int(piece[2]) + 1))
@@ -253,24 +258,26 @@ def spelled(text: str) -> bytes:
 
 
 def rows(path: pathlib.Path) -> list[list[str]]:
-    """The cells of each row of a table, but for empty lines and those that begin with #."""
+    """Returns the cells of each row of a table, except empty lines and lines that begin with #."""
     lines = path.read_text(encoding="utf-8").splitlines()
     return [line.split("\t") for line in lines if line and line[0] != "#"]
 
 
 def title(words: str, *files: bytes) -> bytes:
-    """The title of clauses that aigcheck prints for these words of files of these bytes."""
+    """Returns the header comment of the clauses that aigcheck prints for these arguments and files
+    with these bytes."""
     sums = " ".join(hashlib.sha256(data).hexdigest() for data in files)
     return f"c aigcheck {words} sha256 {sums}\n".encode()
 
 
 def files(path: pathlib.Path) -> dict[str, bytes]:
-    """The bytes of files by their names, as a table has them."""
+    """Returns the bytes of files, by the names that a table uses."""
     return {name: spelled(text) for name, text in rows(path)}
 
 
 def numbers(*defaults: int) -> list[int]:
-    """The numbers of the command line, and those of these that stand behind as many."""
+    """Returns the numbers of the command line, followed by the default values of the missing ones.
+    """
     named = {f"NUMBER{place}": default for place, default in enumerate(defaults, 1)}
     made = parser(sys.modules["__main__"].__doc__, **named)
     return list(vars(made.parse_args()).values())
@@ -278,12 +285,13 @@ def numbers(*defaults: int) -> list[int]:
 
 @contextlib.contextmanager
 def new_folder() -> Iterator[pathlib.Path]:
-    """A new folder, as a path, which is removed again."""
+    """Yields the path of a new folder, and removes the folder afterwards."""
     with tempfile.TemporaryDirectory() as name:
         yield pathlib.Path(name)
 
 
 def crates() -> dict[str, str]:
-    """The lines of crates.txt by the crates' names: what each stands on is behind the colon."""
+    """The lines of crates.txt, by the names of the crates. The crates on which a crate depends
+    follow the colon."""
     lines = (TOP / "crates.txt").read_text().splitlines()
     return {line.split(":")[0].split()[0]: line for line in lines if line and line[0] != "#"}

@@ -47,17 +47,14 @@ def texts_of_module(path: pathlib.Path) -> Iterator[str]:
 
 
 def texts_of_header(path: pathlib.Path) -> Iterator[str]:
-    """Yields the comments of a header of C or C++, without their examples of code."""
+    """Yields the comments of a header of C or C++, a paragraph at a time, without their code."""
     for found in re.findall(
         r"/\*(.*?)\*/|((?:^ *//[^\n]*\n)+)",
         path.read_text(encoding="utf-8"),
         re.DOTALL | re.MULTILINE,
     ):
-        yield re.sub(
-            r"\s+",
-            " ",
-            re.sub(r"^ *(?:\*     .*|(?://+|\*) ?)", "", "".join(found), flags=re.MULTILINE),
-        )
+        text = re.sub(r"^ *(?:\*     .*|(?://+|\*) ?)", "", "".join(found), flags=re.MULTILINE)
+        yield from (re.sub(r"\s+", " ", part) for part in text.split("\n\n"))
 
 
 def is_sentence(text: str) -> bool:

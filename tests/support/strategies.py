@@ -1,9 +1,10 @@
-"""Random cases that shrink: how many a test tries, and what hypothesis does with one that fails.
+"""Random cases that shrink, and the number of cases that each test tries.
 
-A generator of this folder takes a `random.Random`. Cases are made of random bits of a seed, since a
-case that hypothesis draws takes a millisecond longer. One that fails is given to hypothesis as the
-bits of its choices. Hypothesis draws it again from them, makes it smaller (fewer gates, literals
-nearer 0), shows it and keeps it, and the same test tries it first when it runs again.
+A generator of this folder takes a `random.Random`. Cases are generated from the random bits of a
+seed, because hypothesis takes a millisecond longer for each case. If a case fails, hypothesis gets
+the bits of its choices. It draws the case again from these bits, and makes it smaller: with fewer
+gates, and with literals nearer to 0. It prints and stores this case, and the same test tries it
+first when it runs again.
 """
 from __future__ import annotations
 
@@ -24,9 +25,10 @@ from hypothesis.strategies import SearchStrategy
 Made = TypeVar("Made")
 Test = TypeVar("Test", bound=Callable[..., None])
 
-# How many bits a random number from 0 to 1 has.
+# The number of bits of a random number from 0 to 1.
 PRECISION = 24
-# Whether many cases are tried, and by which seed; conftest.py sets both before tests are read.
+# Whether many cases are tried, and with which seed. conftest.py sets both before pytest reads the
+# tests.
 is_long, seed = False, 1
 
 
@@ -45,20 +47,20 @@ class Choices(Random):
 
 
 class Bits:
-    """Random bits of a seed, which are kept as hypothesis keeps those that it draws."""
+    """Random bits of a seed, stored in the format in which hypothesis stores its own."""
 
     def __init__(self, seed: int) -> None:
         self.random, self.kept = Random(seed), bytearray()
 
     def draw(self, count: int) -> int:
-        """Returns so many bits as a number."""
+        """Returns `count` random bits as a number."""
         drawn = self.random.getrandbits(count)
         self.kept += drawn.to_bytes((count + 7) // 8, "big")
         return drawn
 
 
 class Drawn(SearchStrategy[Made]):
-    """What a generator makes of random choices."""
+    """A strategy for the results of a generator with random choices."""
 
     def __init__(self, generator: Callable[[Random], Made]) -> None:
         super().__init__()  # type: ignore[no-untyped-call]
@@ -69,31 +71,31 @@ class Drawn(SearchStrategy[Made]):
 
 
 def made(generator: Callable[[Random], Made]) -> Drawn[Made]:
-    """Returns what a generator makes of random choices, as a strategy."""
+    """Returns a strategy for the results of a generator with random choices."""
     return Drawn(generator)
 
 
 def choices() -> Drawn[Random]:
-    """Returns a source of random choices, as a strategy."""
+    """Returns a strategy for sources of random choices."""
     return made(lambda rng: rng)
 
 
 class Cases:
-    """A test with `@given`, whose strategies are all of this module, and its random cases."""
+    """The random cases of a test with `@given` whose strategies all come from this module."""
 
     def __init__(self, test: Any) -> None:
         self.given, self.inner = test.hypothesis._given_kwargs, test.hypothesis.inner_test
         self.kept = settings(phases=[Phase.reuse, Phase.shrink])(test)
 
     def try_kept(self, fixtures: dict[str, Any]) -> None:
-        """Tries the cases that are kept. Fails with the smallest that hypothesis makes of one."""
+        """Tries the stored cases. If one fails, fails with the smallest case that hypothesis finds."""
         __tracebackhide__ = True
-        # Hypothesis says so where it keeps no case, or none that the test can read any more.
+        # Hypothesis raises these if it has stored no case, or none that the test can still read.
         with contextlib.suppress(unittest.SkipTest, hypothesis.errors.Unsatisfiable):
             self.kept(**fixtures)
 
     def first_failure(self, count: int, fixtures: dict[str, Any]) -> BaseException | None:
-        """Tries so many new cases. Keeps the first that fails, and returns how it does."""
+        """Tries `count` new cases. Stores the first that fails, and returns its exception."""
         bits = Bits(seed)
         rng = Choices(bits.draw)
         for _ in range(count):
@@ -109,7 +111,8 @@ class Cases:
 
 
 def cases(count: int, many: int | None = None) -> Callable[[Test], Test]:
-    """Lets a test try `count` random cases, or `many` with --long. The same seed gives the same."""
+    """Lets a test try `count` random cases, or `many` cases with --long. The same seed gives the
+    same cases."""
     tried = (many or 10 * count) if is_long else count
 
     def decorated(test: Test) -> Any:
@@ -121,7 +124,7 @@ def cases(count: int, many: int | None = None) -> Callable[[Test], Test]:
             own.try_kept(fixtures)
             if failure := own.first_failure(tried, fixtures):
                 own.try_kept(fixtures)
-                # It has more choices than hypothesis draws, or doesn't always fail.
+                # The case has more choices than hypothesis draws, or it doesn't always fail.
                 raise failure
 
         return trying
@@ -130,6 +133,6 @@ def cases(count: int, many: int | None = None) -> Callable[[Test], Test]:
 
 
 def note(words: str) -> None:
-    """Has words printed with a case that fails."""
+    """Prints words with a failing case."""
     if hypothesis.currently_in_test_context():
         hypothesis.note(words)

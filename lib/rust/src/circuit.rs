@@ -306,7 +306,7 @@ impl Aig {
         self.join(calls::aig_circuit_new_and_node, fanin0, fanin1)
     }
 
-    /// Adds a gate for the or of two edges. The returned edge is the inverse of a gate for the and of their inverses.
+    /// Adds a gate for the and of the inverses of two edges, and returns the inverse of this gate, which is the or of the two edges.
     ///
     /// # Panics
     ///
