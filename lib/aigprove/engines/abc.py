@@ -77,10 +77,11 @@ class Abc:
                 raise Fault("its counterexample reaches no bad state")
             job.hand_in_run(trace.text().encode())
         elif invariant:
-            made = model.certificate(invariant)
-            if made is None:
-                raise Fault("its invariant isn't one of the machine")
-            Certificate(job, job.solver(), Sealed(made)).run()
+            with job.answering():
+                made = model.certificate(invariant)
+                if made is None:
+                    raise Fault("its invariant isn't one of the machine")
+                Certificate(job, job.solver(), Sealed(made)).run()
 
 
 class Bmc3(Abc):

@@ -20,7 +20,8 @@ S = TypeVar("S")
 T = TypeVar("T")
 # Seconds that an engine may have run longer than another that waits.
 TURN = 0.25
-# Seconds for which an engine's answer is checked before others go on.
+# Seconds for which an engine's answer is checked before others go on, or for as long as the engine
+# looked for it.
 ALONE = 1
 # An engine that showed a step may run half as long as others once it showed none for so many
 # seconds of its own.
@@ -197,9 +198,10 @@ class Scheduler:
             self.count()
             # It may wait for another's.
             task.is_answering, task.rests_until = True, 0.0
+            until = time.monotonic() + max(ALONE, task.used)
             for other in others:
                 if not other.is_answering:
-                    other.rests_until = time.monotonic() + ALONE
+                    other.rests_until = until
             for group in [group for group in self.running if group.task.rests()]:
                 self.suspend(group)
             self.fill()
