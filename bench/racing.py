@@ -1,53 +1,74 @@
 #!/usr/bin/env python3
-"""Measures what engines side by side cost an answer that pdr alone gives: run racing [TIMES]
+"""Measures what engines side by side cost an answer that one of them gives by itself: run racing [TIMES [NAME ..]]
 
-For designs of tests/verilog that ABC's pdr decides after some seconds, and no other engine: the seconds of ABC's pdr, of bin/aigprove with the
-engine pdr alone, and of bin/aigprove with all engines, in parentheses those of processors with all that they run. Each is the best of TIMES (3)
-runs by turns, of the file that yosys makes of the design. An answer takes as long as pdr does, its check, and what all the engines cost beside."""
+For the files of tests/designs, and those that yosys makes of designs of tests/verilog that ABC's pdr alone decides, after seconds: the engine
+that is the first to answer where each runs alone; the seconds that bin/aigprove takes with it, and with all engines, in parentheses those of
+processors with all that they run; and the seconds by which all engines take longer than that engine's program, the check of its evidence and
+0.3 s: not at all, if the number is below 0. Each is the median of TIMES (5) runs by turns. Program and check are what aigprove takes with the
+engine beyond what it takes for a file without latches, which is in the first row."""
 import os
 import pathlib
-import shutil
+import statistics
 import subprocess
 import sys
 import time
 
-from measuring import CHECK, EDIT, PROVE, TESTS, TOOL, heads, new_folder, row
+from measuring import CHECK, DESIGNS, EDIT, PROVE, TESTS, TOOL, compile_aigprove, heads, new_folder, row
 
-DESIGNS = [("fifo_data", []), ("fifo_data", ["WIDTH=2"]), ("credit_link", []), ("ticket", [])]
+VERILOG = [("fifo_data", ""), ("fifo_data", "WIDTH=2"), ("credit_link", ""), ("ticket", "")]
 PROGRAMS = ["--aigtool", TOOL, "--aigedit", EDIT, "--aigcheck", CHECK]
-ABC = "berkeley-abc"
+ENGINES = ["bmc3", "pdr", "bounded", "steps", "windows"]
+ANSWERS, MORE = (10, 20), 0.3
 
 
-def took(words):
-    """The seconds of a run, and those of processors with all that it runs; it has to find that the design is safe."""
+def took(file, *words):
+    """The seconds of a run, and those of processors with all that it runs; None where it gives no answer."""
     begun = time.monotonic()
-    child = subprocess.Popen(list(map(str, words)), stdout=subprocess.PIPE, stderr=subprocess.DEVNULL)
-    printed = child.stdout.read()
-    _, _, usage = os.wait4(child.pid, 0)
-    if b"no bad state at any step" not in printed and b"Property proved" not in printed:
-        sys.exit(f"{' '.join(map(str, words))}: no answer: {printed.decode()}")
-    return time.monotonic() - begun, usage.ru_utime + usage.ru_stime
+    child = subprocess.Popen([PROVE, *PROGRAMS, "-q", *words, file], stdout=subprocess.DEVNULL)
+    _, status, usage = os.wait4(child.pid, 0)
+    seconds = time.monotonic() - begun
+    return (seconds, usage.ru_utime + usage.ru_stime) if os.waitstatus_to_exitcode(status) in ANSWERS else None
 
 
-def measure(name, parameters, times, folder):
-    """A row for a design."""
-    words = [word for it in parameters for word in ("--parameter", it)]
-    kept = folder / "kept"
-    subprocess.run([PROVE, *PROGRAMS, "--tasks", "--keep", kept, *words, TESTS / "verilog" / f"{name}.v"],
-                   stdout=subprocess.DEVNULL, check=True)
-    file = next(kept.glob("file.a?g"))
-    runs = [[ABC, "-q", f"read_aiger {file}; zero; fold; pdr"], [PROVE, *PROGRAMS, "-q", "--engine", "pdr", file], [PROVE, *PROGRAMS, "-q", file]]
-    best = [min(own) for own in zip(*([took(run) for run in runs] for _ in range(times)))]
-    row(" ".join([name, *parameters]), *(f"{seconds:.2f} ({used:.2f})" for seconds, used in best))
-    shutil.rmtree(kept)
+def median(runs):
+    """The medians of the seconds of runs."""
+    return [statistics.median(own) for own in zip(*runs)]
+
+
+def first(file):
+    """The engine that is the first to answer where each runs alone."""
+    found, most = {}, took(file, "--timeout", "60")[0] + 1
+    for engine in ENGINES:
+        if own := took(file, "--engine", engine, "--timeout", f"{most:.1f}"):
+            found[engine] = own[0]
+            most = min(most, own[0] + MORE)
+    return min(found, key=found.get)
+
+
+def made(name, parameter, folder):
+    """The file that yosys makes of a design."""
+    kept = folder / f"{name} {parameter}"
+    words = ["--parameter", parameter] if parameter else []
+    subprocess.run([PROVE, *PROGRAMS, "--tasks", "--keep", kept, *words, TESTS / "verilog" / f"{name}.v"], stdout=subprocess.DEVNULL, check=True)
+    return next(kept.glob("file.a?g"))
 
 
 def main():
-    times = int(sys.argv[1]) if len(sys.argv) > 1 else 3
-    heads("design", "ABC's pdr", "aigprove --engine pdr", "aigprove")
+    times, names = int(sys.argv[1]) if len(sys.argv) > 1 else 5, sys.argv[2:]
+    compile_aigprove()
+    heads("design", "engine", "alone", "all engines", "too long")
     with new_folder() as folder:
-        for name, parameters in DESIGNS:
-            measure(name, parameters, times, pathlib.Path(folder))
+        empty = pathlib.Path(folder) / "empty.aag"
+        empty.write_text("aag 0 0 0 0 0 1\n0\n")
+        least = median([took(empty) for _ in range(times)])
+        row("none", "", f"{least[0]:.2f} ({least[1]:.2f})", "", "")
+        files = {path.stem: path for path in sorted(DESIGNS.glob("*.aig")) if not names or path.stem in names}
+        files |= {f"{name} {word}".strip(): made(name, word, pathlib.Path(folder)) for name, word in VERILOG if not names or name in names}
+        for name, file in files.items():
+            engine = first(file)
+            alone, every = map(median, zip(*([took(file, "--engine", engine), took(file)] for _ in range(times))))
+            beyond = every[0] - alone[0] + least[0] - MORE
+            row(name, engine, *(f"{seconds:.2f} ({used:.2f})" for seconds, used in [alone, every]), f"{beyond:.2f}")
 
 
 if __name__ == "__main__":

@@ -187,7 +187,8 @@ class Maker:
             return self.signal("state", name, width)
         bits = f"[{width - 1}:0] " * (width > 1)
         self.parts["state"].append(f"{held}[{width - 1}:0]")
-        self.parts["also"].append(f"wire {bits}{name} = {self.reset} ? {self.first(name)} : {held};")
+        value = f"{self.reset} ? {self.first(name)} : {held}"
+        self.parts["also"].append(f"wire {bits}{name} = {value};")
         self.read(name, width)
         return bits + name
 

@@ -850,7 +850,16 @@ def test_stored(checks: Checks) -> None:
     reset."""
     reset = cell("$mux", A=[7], B=["0"], S=[2], Y=[8])
     nets = {"$7": net(7, hidden=1), "q": net(8), "r": net(2)}
+    sets = cell("$or", A=[7], B=[4], Y=[9])
+    clears = cell("$and", A=[9], B=[5], Y=[8])
     rows = [
+        (
+            "a set and a reset",
+            nets,
+            [cell("$ff", D=[3], Q=[7]), sets, clears],
+            [("$7", "q.stored")],
+        ),
+        ("a set alone", nets, [cell("$ff", D=[3], Q=[7]), sets], []),
         ("a register", nets, [cell("$ff", D=[3], Q=[7]), reset], [("$7", "q.stored")]),
         (
             "the other side",
