@@ -42,6 +42,9 @@ HUSHED = {
     "Identifier `.*' is implicitly declared":
     "each such name is looked up, and refused if it is no implicit net of Verilog",
 }
+# What it warns of where it doesn't keep what a block says: the values of resets that are active
+# together are in the order of these values.
+UNORDERED = re.compile(r"Complex async reset for dff `\\?(.*)'\.")
 # Up to how many files of a folder are all linked, and how much of one is looked through for names;
 # what parts these; and names of files that a text computes, as this one does.
 MANY, LARGE = 200, 1 << 20
@@ -175,9 +178,14 @@ class Yosys:
                 out.write(text)
 
     def warned(self, said: str) -> None:
-        """Keeps the warnings in what yosys said, each as a line."""
+        """Keeps the warnings in what yosys said, each as a line.
+
+        Registers with several asynchronous resets are refused."""
         for place, text in WARNING.findall(said):
             what = " ".join(self.told(text).split())
+            if unordered := UNORDERED.match(what):
+                raise Fault(f"{self.path}: yosys doesn't keep the order of the asynchronous resets "
+                            f"of {unordered[1]}: let one signal, the or of these, reset it")
             line = f"{self.told(place) if place else self.path}: yosys warns: {what}"
             if line not in self.warnings and not any(re.match(hushed, text) for hushed in HUSHED):
                 self.warnings.append(line)
