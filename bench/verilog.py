@@ -25,8 +25,10 @@ def main():
     sums = [0] * len(trees)
     heads("design", *trees)
     for design in sorted([*(TESTS / "verilog").glob("*v"), *(TOP / "examples").glob("*.v")]):
-        runs = [[seconds(tree, design) for tree in trees] for _ in range(times)]
-        if all(None not in run for run in runs):
+        runs = []
+        while len(runs) < times and (not runs or None not in runs[-1]):
+            runs.append([seconds(tree, design) for tree in trees])
+        if None not in runs[-1]:
             best = [min(of_tree) for of_tree in zip(*runs)]
             sums = [sum(it) for it in zip(sums, best)]
             row(design.name, *(f"{took:.2f}" for took in best))

@@ -5,7 +5,7 @@ import collections
 import re
 
 # What stands for an expression of one bit (B) or of two (W), of which X and Y are x, U is a net
-# that nobody drives, and D a digit.
+# that nobody drives, D a digit, and N a signal: an x in a loop would be another one each time.
 FORMS = {
     "B": [
         "(!B)", "(B & B)", "(B | B)", "(B ^ B)", "(B ? B : B)", "(W == W)", "(W < W)", "(^W)",
@@ -18,12 +18,24 @@ FORMS = {
 NETS = [
     ("B", 1, "wire # = {};", "wire # = {};"),
     ("W", 2, "wire [1:0] # = {};", "wire [1:0] # = {};"),
-    ("U", 1, "wire {0}; wire # = {0};", "wire # = {};"),
+    ("U", 1, "wire # = {};", "wire # = {};"),
     ("BU", 1, "wire # = {} ^ {};", "wire # = {} ^ {};"),
     ("BX", 2, "wire [1:0] #; assign #[0] = {};", "wire [1:0] # = {{{1}, {0}}};"),
     ("BX", 2, "reg [1:0] #; always @* #[1] = {};", "wire [1:0] # = {{{0}, {1}}};"),
     ("BX", 1, "wire #; differ #_part(.a({}), .y(#));", "wire # = {} ^ {};"),
     ("BX", 1, "wire #; both #_part(.a({}), .b(), .y(#));", "wire # = {} & {};"),
+    (
+        "BX", 1, "wire #; if (1) begin : #_in wire y = {} ^ {}; end assign # = #_in.y;",
+        "wire # = {} ^ {};",
+    ),
+    (
+        "NN", 2,
+        (
+            "wire [1:0] #; for (g = 0; g < 2; g = g + 1) begin : #_at wire y = {} & g[0] | {}; end"
+            " assign # = {{#_at[1].y, #_at[0].y}};"
+        ),
+        "wire [1:0] # = {{{0} | {1}, {1}}};",
+    ),
     (
         "WBBX", 1,
         "reg #; always @* case ({}) 2'd0: # = {}; 2'd1: # = {}; default: # = {}; endcase",
@@ -75,17 +87,29 @@ NEXT = [
     "# <= V;", "if (B) # <= V;", "if (B) # <= 0; else # <= V;",
     "case (W) 2'd1: # <= V; 2'd2: # <= V; endcase",
 ]
-# The same where the register has an asynchronous reset: F is a function; and where a loop or an
-# index writes a register of two bits.
-CALLED = {1: "inverted_bit", 2: "inverted"}
-FUNCTIONS = (
-    "function inverted_bit(input a); inverted_bit = !a; endfunction\n  function [1:0]"
-    " inverted(input [1:0] a); inverted = ~a; endfunction"
-)
-# (N is a signal: an x in a loop would be another one each time).
+# The same in a block with an asynchronous reset, by a function or a task, by the width of the
+# register, and in the twin.
+CALLED = {
+    1: [("# <= inverted_bit(V);", "# <= !(V);"), ("invert_bit(V, #);", "# <= !(V);")],
+    2: [("# <= inverted(V);", "# <= ~(V);"), ("invert(V, #);", "# <= ~(V);")],
+}
+ROUTINES = [
+    "integer i; genvar g;",
+    "function inverted_bit(input a); inverted_bit = !a; endfunction",
+    "function [1:0] inverted(input [1:0] a); inverted = ~a; endfunction",
+    "task invert_bit(input a, output b); b = !a; endtask",
+    "task invert(input [1:0] a, output [1:0] b); integer k;",
+    "  for (k = 0; k < 2; k = k + 1) b[k] = !a[k]; endtask",
+]
+# What writes a register of two bits by a loop or an index.
 INDEXED = [
     "#[B] <= B;", "for (i = 0; i < 2; i = i + 1) #[i] <= N;",
     "if (B) for (i = 0; i < 2; i = i + 1) #[i] <= !N;",
+]
+# Where an assertion may be: a block that is generated has a label.
+PLACES = [
+    "if (1) begin : {} {} end", "for (g = 0; g < 1; g = g + 1) begin : {} {} end",
+    "case (0) 0: begin : {} {} end endcase",
 ]
 # What an assertion may do, and system tasks at an edge.
 ACTIONS = ["", " else $error(\"no\")", " $display(\"yes\"); else begin $fatal(1, \"no\"); end"]
@@ -112,17 +136,18 @@ class Maker:
             self.signal("free", self.new("i"), rng.choice([1, 1, 2]))
             for _ in range(rng.randint(0, 2))
         ]
-        self.has_reset = rng.random() < 0.3
-        if self.has_reset:
+        # What is true in an asynchronous reset, if there is one.
+        self.reset = rng.choice(["rst", "!rst"]) if rng.random() < 0.3 else ""
+        if self.reset:
             inputs.append(self.signal("free", "rst", 1))
         self.lines.append(
             f"module top({', '.join(['input clk', *(f'input {it}' for it in inputs)])});"
         )
         registers = {self.new("q"): rng.randint(1, 2) for _ in range(rng.randint(1, 3))}
-        self.lines += ["integer i;", FUNCTIONS]
+        self.lines += ROUTINES
         self.parts["also"].append("integer i;")
         held = {
-            name: f"{name}_held" if self.has_reset and rng.random() < 0.6 else name
+            name: f"{name}_held" if self.reset and rng.random() < 0.6 else name
             for name in registers
         }
         for name, width in registers.items():
@@ -130,7 +155,6 @@ class Maker:
         self.nets(rng.random() < 0.4)
         for name, width in registers.items():
             form = rng.choice(INDEXED if width == 2 and rng.random() < 0.3 else NEXT)
-            form = form.replace("N", rng.choice(self.names["B"]))
             if held[name] == name:
                 self.edge(form.replace("V", "BW"[width - 1]).replace("#", name))
             else:
@@ -163,7 +187,8 @@ class Maker:
             return self.signal("state", name, width)
         bits = f"[{width - 1}:0] " * (width > 1)
         self.parts["state"].append(f"{held}[{width - 1}:0]")
-        self.parts["also"].append(f"wire {bits}{name} = rst ? {self.first(name)} : {held};")
+        value = f"{self.reset} ? {self.first(name)} : {held}"
+        self.parts["also"].append(f"wire {bits}{name} = {value};")
         self.read(name, width)
         return bits + name
 
@@ -178,11 +203,13 @@ class Maker:
 
     def filled(self, form, depth):
         """A form with an expression for each of its letters."""
-        return re.sub("[BWXYUD]", lambda found: self.expression(found[0], depth), form)
+        return re.sub("[BWXYUDN]", lambda found: self.expression(found[0], depth), form)
 
     def expression(self, letter, depth):
         if letter == "D":
             return str(self.rng.randrange(4))
+        if letter == "N":
+            return self.rng.choice(self.names["B"])
         if letter in "XYU":
             name = self.new({"X": "o", "Y": "p", "U": "u"}[letter])
             self.parts["free"].append(f"{name}[{int(letter == 'Y')}:0]")
@@ -219,25 +246,23 @@ class Maker:
         self.lines.append(f"always @(posedge clk) {self.parts['next'][-1]}")
 
     def reset_edge(self, form, name, width):
-        """Adds what an edge does to a register with an asynchronous reset, perhaps by a
-        function."""
-        letter, head, tail, values = "BW"[width - 1], form, "", ["", ""]
-        if "V" in form and self.rng.random() < 0.6:
-            head, _, tail = form.partition("V")
+        """Adds what an edge does to a register with an asynchronous reset, perhaps by a function or
+        a task."""
+        letter, head, tail, both = "BW"[width - 1], form, "", ["", ""]
+        if "# <= V;" in form and self.rng.random() < 0.6:
+            head, _, tail = form.partition("# <= V;")
             inner = self.filled(letter, 1)
-            values = [
-                f"{CALLED[width]}({inner})", f"(~({inner}))" if width == 2 else f"(!({inner}))",
-            ]
-        # The values of both have the same names of what is open.
+            both = [text.replace("V", inner) for text in self.rng.choice(CALLED[width])]
+        # Both have the same names of what is open.
         head, tail = (self.filled(part.replace("V", letter), 2) for part in (head, tail))
-        design, made = (f"{head}{value}{tail}" for value in values)
-        first = self.first(name)
+        design, made = (f"{head}{own}{tail}" for own in both)
+        edge, first = "negedge" if "!" in self.reset else "posedge", self.first(name)
         self.lines.append(
-            f"always @(posedge clk or posedge rst) if (rst) {name} <= {first}; else"
+            f"always @(posedge clk or {edge} rst) if ({self.reset}) {name} <= {first}; else"
             f" {design.replace('#', name)}"
         )
         self.parts["next"].append(
-            f"if (rst) {name}_held <= {first}; else {made.replace('#', name + '_held')}"
+            f"if ({self.reset}) {name}_held <= {first}; else {made.replace('#', name + '_held')}"
         )
 
     def clocked(self, kind):
@@ -257,8 +282,10 @@ class Maker:
         action = rng.choice(ACTIONS) if kind == "assert" else ""
         disable = f"disable iff {off} " * bool(off)
         self.lines.append(
-            f"{kind} property (@(posedge clk)"
-            f" {disable}{text}){action}{';' * (not action.endswith('end'))}"
+            self.placed(
+                f"{kind} property (@(posedge clk)"
+                f" {disable}{text}){action}{';' * (not action.endswith('end'))}"
+            )
         )
         failed = self.new("f")
         self.flag(failed, f"!{failed}", " || ".join(self.failing(items, off)))
@@ -306,13 +333,18 @@ class Maker:
             self.flag("on", "!on", "1")
             self.parts["ok"].append(f"(on || {held})")
 
+    def placed(self, line):
+        """Returns a line with an assertion, perhaps in a block that is generated."""
+        is_placed = self.rng.random() < 0.3
+        return self.rng.choice(PLACES).format(self.new("g"), line) if is_placed else line
+
     def assertion(self, claim):
         """Adds an assertion of each step, or of each edge."""
         if self.rng.random() < 0.7:
-            self.lines.append(f"always @* assert ({claim});")
+            self.lines.append(self.placed(f"always @* assert ({claim});"))
             self.parts["bad"].append(f"!({claim})")
             return
-        self.lines.append(f"always @(posedge clk) assert ({claim});")
+        self.lines.append(self.placed(f"always @(posedge clk) assert ({claim});"))
         failed = self.new("f")
         self.flag(failed, f"!{failed}", f"!({claim})")
         self.parts["bad"].append(failed)

@@ -12,6 +12,8 @@ TABLE, SEARCH = TESTS / "twins" / "table.txt", TESTS / "twins" / "search.v"
 STEPS = 4095
 # In how many steps it is looked whether what is assumed can be met.
 MET = 32
+# How many seconds Icarus may take, beside whatever else runs.
+SECONDS = 10 * harness.SECONDS
 UNMET = re.compile("the assumptions can't be met from step ([0-9]+) on: the answer is empty")
 PART = re.compile(r"(state|free|first|next|also|ok|bad|refused): (.*)")
 SIGNAL = re.compile(r"(\w+)(?:\[(\d+):0\])?")
@@ -99,7 +101,7 @@ class Design:
 
     def searched(self, folder, held):
         """The lines that Icarus prints of the twin; of runs that are held to printed lines, if
-        any."""
+        any. It has to come to an end."""
         steps = len(held) - 2 if held else STEPS
         if held:
             (folder / "first").write_text(self.pattern("state", held[0]))
@@ -114,12 +116,9 @@ class Design:
             "HELD": int(bool(held)),
         }
         defined = [f"-D{name}={value}" for name, value in macros.items()]
-        status, _, said = harness.run(
-            ["iverilog", "-g2012", *defined, "-o", "search", SEARCH, "twin.v"], cwd=folder
-        )
-        if status == 0:
-            status, said, _ = harness.run(["vvp", "-n", "search"], cwd=folder)
-        return said.decode().split("\n")
+        words = ["iverilog", "-g2012", *defined, "-o", "search", SEARCH, "twin.v"]
+        harness.output(words, cwd=folder, timeout=SECONDS)
+        return harness.output(["vvp", "-n", "search"], cwd=folder, timeout=SECONDS).split("\n")
 
     def faults(self, folder):
         """What is wrong of aigprove's answer about the design."""

@@ -1311,7 +1311,8 @@ def test_reading_files(checks: Checks, folder: pathlib.Path) -> None:
     design = reader.read(files)
     fronts = [
         "read_rtlil FD0/0/source/design.v", "read_blif -wideports FD0/0/source/design1.v",
-        "formalff -clk2ff t:$dff", "verilog_defaults -push",
+        "formalff -clk2ff t:$dff c:* %co1 w:* %i i:* %u %co1:+[CLK] %d",
+        "setattr -unset keep a:replaced_by_gclk", "verilog_defaults -push",
         "verilog_defaults -add -ppdump -noautowire", "script FD0/0/source/design2.v",
         "verilog_defaults -pop",
         "read_verilog -ppdump -noautowire -formal -sv -I FD1 FD0/0/source/design3.v",
@@ -1334,7 +1335,7 @@ def test_reading_files(checks: Checks, folder: pathlib.Path) -> None:
                 f"verilog_defaults -add {inner}",
                 f"read_verilog {words} -formal -sv -I BESIDE -I INCLUDE COPY3",
             ],
-            [given[4], given[7]],
+            [given[5], given[8]],
         )
         checks.wants(f"{words}: implicit nets", f"\n\n`default_nettype {end}\n".encode(), way.end)
     checks.wants("Verilog alone", {str(folder / "d.sv"): b"x"}, design.given())

@@ -894,7 +894,16 @@ def test_names(checks: Checks) -> None:
 # A choice of what a register holds or its reset, nets, and cells with the names of what is stored.
 RESET = cell("$mux", A=[7], B=["0"], S=[2], Y=[8])
 STORING = {"$7": net(7, hidden=1), "q": net(8), "r": net(2)}
+SETS = cell("$or", A=[7], B=[4], Y=[9])
+CLEARS = cell("$and", A=[9], B=[5], Y=[8])
 STORED = [
+    (
+        "a set and a reset",
+        STORING,
+        [cell("$ff", D=[3], Q=[7]), SETS, CLEARS],
+        [("$7", "q.stored")],
+    ),
+    ("a set alone", STORING, [cell("$ff", D=[3], Q=[7]), SETS], []),
     ("a register", STORING, [cell("$ff", D=[3], Q=[7]), RESET], [("$7", "q.stored")]),
     (
         "the other side",

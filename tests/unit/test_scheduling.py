@@ -154,6 +154,10 @@ def test_answers(checks: Checks, four_jobs: scheduler.Scheduler) -> None:
             raise Fault("it is none")
     except Fault:
         checks.check(runs(group), "another engine doesn't go on once an answer is refused")
+    tasks[0].used = 60
+    with tasks[0].answering(tasks):
+        left = tasks[1].rests_until - time.monotonic()
+    checks.check(55 < left <= 60, f"the check of a long search has {left:.0f} s")
     scope.stop()
     checks.check(has_ended(group), "a scope doesn't end")
 

@@ -5,7 +5,8 @@ from typing import NamedTuple
 from aigprove.circuits.aiger import Fault
 
 # The command of yosys that reads a file, by the end of its name; `words` are the options for
-# Verilog. After BLIF is read, its latches get one clock.
+# Verilog. In BLIF, a clock may be only a name; latches with such a clock are registers of all
+# steps.
 VERILOG = "read_verilog {words} -formal -sv {include} {file}"
 SCRIPT = "verilog_defaults -push\nverilog_defaults -add {inner}\n" \
     "script {file}\nverilog_defaults -pop"
@@ -13,7 +14,9 @@ BLIF = ".blif"
 FRONTS = {
     **dict.fromkeys([".v", ".sv", ".vh", ".svh"], VERILOG),
     **dict.fromkeys([".il", ".rtlil"], "read_rtlil {file}"),
-    BLIF: "read_blif -wideports {file}\nformalff -clk2ff t:$dff",
+    BLIF: "read_blif -wideports {file}\n"
+    "formalff -clk2ff t:$dff c:* %co1 w:* %i i:* %u %co1:+[CLK] %d\n"
+    "setattr -unset keep a:replaced_by_gclk",
     ".ys": SCRIPT,
 }
 STANDARD_INPUT = "-"

@@ -216,13 +216,22 @@ def stored(module: Json) -> Iterator[tuple[str, str]]:
     held = {tuple(cell["connections"]["Q"])
             for cell in module["cells"].values() if "Q" in cell["connections"]}
     taken = set(module["netnames"])
-    for cell in module["cells"].values():
-        ports = cell["connections"]
-        for bits in [tuple(ports[port]) for port in "AB" if cell["type"] == "$mux"]:
-            old, new = nets.get(bits), named.get(tuple(ports["Y"]))
-            if bits in held and old and old[1] and new and stored_name(new) not in taken:
-                taken.add(stored_name(new))
-                yield old[0], stored_name(new)
+    for bits, result in changed(module):
+        old, new = nets.get(bits), named.get(result)
+        if bits in held and old and old[1] and new and stored_name(new) not in taken:
+            taken.add(stored_name(new))
+            yield old[0], stored_name(new)
+
+
+def changed(module: Json) -> Iterator[tuple[tuple[Bit, ...], tuple[Bit, ...]]]:
+    """Yields bits that a reset may change, and the result: by a choice, or by a set and a clear."""
+    ports = [(cell["type"], {port: tuple(bits) for port, bits in cell["connections"].items()})
+             for cell in module["cells"].values()]
+    set_by = {own["Y"]: own for kind, own in ports if kind == "$or"}
+    for kind, own in ports:
+        for bits in [own[port] for port in "AB" if kind in ("$mux", "$and")]:
+            inner = set_by.get(bits, {}) if kind == "$and" else {"A": bits}
+            yield from ((inner[port], own["Y"]) for port in inner if port != "Y")
 
 
 def stored_name(name: str) -> str:

@@ -44,6 +44,9 @@ IGNORED = {
     "Identifier `.*' is implicitly declared":
     "each such name is looked up, and refused if it is no implicit net of Verilog",
 }
+# The warning of yosys about a register with several asynchronous resets, whose order in the block
+# yosys doesn't keep.
+UNORDERED = re.compile(r"Complex async reset for dff `\\?(.*)'\.")
 # MANY is the greatest number of entries of a folder that are all linked. LARGE is how many bytes of
 # a file are searched for names. SEPARATORS separate names in a text. COMPUTED finds names that a
 # text computes, and COMPUTED_NAME is an example of such a text.
@@ -180,10 +183,15 @@ class Yosys:
                 out.write(text)
 
     def warned(self, said: str) -> None:
-        """Records the warnings in what yosys printed, each as one line."""
+        """Records the warnings in what yosys printed, each as one line.
+
+        Raises Fault if a register has several asynchronous resets."""
         for place, text in WARNING.findall(said):
+            warning = " ".join(self.readable(text).split())
+            if unordered := UNORDERED.match(warning):
+                raise Fault.of("unordered_resets", path=self.path, name=unordered[1])
             line = message("yosys_warns", place=self.readable(place) if place else self.path,
-                           warning=" ".join(self.readable(text).split()))
+                           warning=warning)
             is_ignored = any(re.match(pattern, text) for pattern in IGNORED)
             if line not in self.warnings and not is_ignored:
                 self.warnings.append(line)

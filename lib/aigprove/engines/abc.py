@@ -84,10 +84,11 @@ class Abc:
                 raise Fault.of("false_counterexample")
             job.hand_in_run(trace.text().encode())
         elif invariant:
-            made = model.certificate(invariant)
-            if made is None:
-                raise Fault.of("false_invariant")
-            Certificate(job, job.solver(), Sealed(made)).run()
+            with job.answering():
+                made = model.certificate(invariant)
+                if made is None:
+                    raise Fault.of("false_invariant")
+                Certificate(job, job.solver(), Sealed(made)).run()
 
 
 class Bmc3(Abc):

@@ -20,7 +20,8 @@ S = TypeVar("S")
 T = TypeVar("T")
 # The seconds by which an engine may have run longer than another one that waits.
 TURN = 0.25
-# The seconds for which other engines wait while an engine's answer is checked.
+# The least seconds for which other engines wait while an engine's answer is checked. They wait at
+# least as long as the engine has looked for the answer.
 ALONE = 1
 # An engine that has checked a step, but no further one for LATELY seconds of its own time, gets a
 # SLOWED part of the time of others.
@@ -198,9 +199,10 @@ class Scheduler:
             self.count()
             # It may itself be waiting for another task.
             task.is_answering, task.rests_until = True, 0.0
+            until = time.monotonic() + max(ALONE, task.used)
             for other in others:
                 if not other.is_answering:
-                    other.rests_until = time.monotonic() + ALONE
+                    other.rests_until = until
             for group in [group for group in self.running if group.task.rests()]:
                 self.suspend(group)
             self.fill()
