@@ -317,7 +317,7 @@ GIVEN_ONCE = [
     ("  connect { \\a [0] \\b } { 1'1 \\c }\n  connect \\b 1'1\n  connect \\y \\b\n", None),
     ("  connect \\a { 1'1 \\c }\n  connect \\a 2'01\n  connect \\y \\a\n", None),
     ("  connect \\u 2'10\n  connect \\u 2'00\n  connect \\y { \\u \\u \\u }\n", None),
-    ("  connect \\a \\c\n  connect \\a \\d\n  connect \\a 2'00\n  connect \\y \\a\n", None),
+    ("  connect \\a 2'1x\n  connect \\a 2'00\n  connect \\y \\a\n", None),
     (
         "".join(
             ONCE.format(i, text).replace("$0\\a 3", "{ $0\\a \\b } 3")
