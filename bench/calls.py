@@ -2,7 +2,7 @@
 """Measures calls in process beside the programs: run calls FILE ..
 
 For each file it takes the queries for the steps 0 to a bound, as far as they have no solution, and prints how long checking their proofs
-takes: by `check_refuted` of lib/python/aig.py, and by a process of aigcheck for each. And for a large circuit, which it makes, each call
+takes: by `check_refuted` of lib/python/aig, and by a process of aigcheck for each. And for a large circuit, which it makes, each call
 that prints beside its program. In processor seconds, the least of some runs. It needs cadical, and the libraries that tests/support/archive.py
 builds.
 """

@@ -1,7 +1,9 @@
 """What a release is made of, and where each file lies below a prefix."""
 from __future__ import annotations
 
+import os
 import pathlib
+import site
 import subprocess
 import sys
 import tempfile
@@ -18,7 +20,7 @@ CRATES = TOP / "crates"
 ARCHIVE = TOP / "tests" / "support" / "archive.py"
 PROGRAMS = ["aigtool", "aigedit", "aigcheck"]
 HEADERS = ["aig.h", "aig_circuit.h", "aig.hpp"]
-MODULES = ["aig.py", "aig_calls.py", "aig_circuits.py", "aig_library.py"]
+MODULES = ["__init__.py", "_calls.py", "_circuits.py", "_library.py", "py.typed"]
 # By which programs ask for the shared library. Its number is that of incompatible versions.
 SONAME = f"libaig.so.{VERSION.partition('.')[0]}"
 DOCUMENTS = "share/doc/aig"
@@ -81,7 +83,7 @@ def libraries() -> Tree:
     build_library()
     return {
         **{f"include/{name}": read(TOP / "include", name) for name in HEADERS},
-        **{f"lib/python/{name}": read(TOP / "lib" / "python", name) for name in MODULES},
+        **{f"lib/python/aig/{name}": read(TOP / "lib" / "python" / "aig", name) for name in MODULES},
         "lib/libaig.a": File(library("libaig.a").read_bytes()),
         f"lib/{SONAME}": File(library("libaig.so").read_bytes()),
         "lib/libaig.so": Link(SONAME),
@@ -89,10 +91,14 @@ def libraries() -> Tree:
     }
 
 
-def environment() -> Tree:
-    """Returns the links by which a prefix that is an environment of Python's finds the modules."""
-    site = "lib/python{}.{}/site-packages".format(*sys.version_info[:2])
-    return {f"{site}/{name}": Link(f"../../python/{name}") for name in MODULES}
+def environment(prefix: pathlib.Path) -> Tree:
+    """Returns the links by which Python finds the package: below a prefix that is an environment
+    of it, or that this Python looks below, such as /usr/local."""
+    sites = {prefix / "lib/python{}.{}/site-packages".format(*sys.version_info[:2])}
+    sites |= {it for it in map(pathlib.Path, site.getsitepackages()) if prefix / "lib" in it.parents}
+    package = prefix / "lib" / "python" / "aig"
+    return {str((it / "aig").relative_to(prefix)): Link(os.path.relpath(package, it))
+            for it in sites}
 
 
 def pages() -> Tree:

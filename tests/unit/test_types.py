@@ -30,14 +30,14 @@ TYPED = {
         "--follow-imports=silent", "conftest.py", "support/harness.py",
         *(f"{name}.py" for name in TYPED_TESTS),
     ],
-    TOP / "lib" / "python": ["aig.py", "aig_library.py", "aig_circuits.py", "aig_calls.py"],
+    TOP / "lib" / "python": ["-p", "aig"],
     TOP / "examples": ["--follow-imports=silent", "incremental.py"],
     TESTS / "clients": ["--follow-imports=silent", "circuits.py", "threads.py", "signals.py"],
 }
 LAID_OUT = {
     TOP / "lib": ["aigprove", "dist"],
     TESTS: ["--exclude", "failed"],
-    TOP / "lib" / "python": ["aig.py", "aig_library.py", "aig_circuits.py"],
+    TOP / "lib" / "python": ["--exclude", "_calls.py", "aig"],
     TOP / "examples": ["incremental.py"],
 }
 
@@ -54,6 +54,20 @@ def test_types(folder: pathlib.Path, place: pathlib.Path) -> None:
         *TYPED[place],
     ]
     status, printed, said = harness.run(words, cwd=place, env=environment, timeout=600)
+    assert status == 0, (printed + said).decode()
+
+
+@pytest.mark.typed
+def test_installed(folder: pathlib.Path) -> None:
+    """mypy finds the types of the package aig where it is installed, without a path to it."""
+    harness.output([TOP / "lib" / "clients.py"])
+    python = folder / "made" / "bin" / "python"
+    harness.output([sys.executable, "-m", "venv", "--without-pip", folder / "made"])
+    site, = (folder / "made" / "lib").glob("python*/site-packages")
+    (site / "aig").symlink_to(TOP / "lib" / "python" / "aig")
+    words = ["mypy", "--strict", "--cache-dir", folder / "types", "--python-executable", python]
+    callers = ["threads.py", "signals.py"]
+    status, printed, said = harness.run([*words, *callers], cwd=TESTS / "clients", timeout=600)
     assert status == 0, (printed + said).decode()
 
 
