@@ -14,7 +14,7 @@ from harness import TESTS, TOP
 SUPPORT = TESTS / "support"
 # Modules of tests/support, and others of tests, whose types fit.
 TYPED_SUPPORT = """aiger archive commands faults fixtures kit languages lines promises reasons room
-scripts sources strategies tables theorems trials""".split()
+scripts sources strategies surface tables theorems trials""".split()
 TYPED_TESTS = """oracles/test_circuits oracles/test_circuit_clients oracles/test_incremental
 oracles/test_stepwise oracles/test_subjects prove/test_promises prove/test_widths rows/test_answers
 rows/test_calling rows/test_completion rows/test_drop_in rows/test_memory rows/test_outs

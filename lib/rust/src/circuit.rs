@@ -10,6 +10,7 @@ use std::collections::{HashMap, HashSet};
 use std::fmt::{self, Debug, Display};
 use std::fs;
 use std::ops::{Deref, Index, Range};
+use std::panic::RefUnwindSafe;
 use std::path::Path;
 
 /// How many items of a list there is room for at first.
@@ -97,6 +98,9 @@ pub struct Aig {
     /// What it has, if that was read since the last change that isn't put down here.
     lists: OnceCell<Lists>,
 }
+
+// A call that panics leaves the circuit as it was, and the lists are put there as a whole.
+impl RefUnwindSafe for Aig {}
 
 /// The literal of an edge, which is to a node below 2^31.
 #[track_caller]
@@ -747,12 +751,11 @@ impl Display for Aig {
 
 impl Debug for Aig {
     fn fmt(&self, f: &mut fmt::Formatter<'_>) -> fmt::Result {
+        let Lists { nodes, inputs, latchs, outputs, bads, constraints, justice, fairness, symbols } = &**self;
         let mut made = f.debug_struct("Aig");
-        made.field("nodes", &self.nodes).field("inputs", &self.inputs).field("latchs", &self.latchs);
-        for (name, list) in ["outputs", "bads", "constraints", "fairness"].into_iter().zip(PropList::ALL) {
-            made.field(name, &self.edges(list));
-        }
-        made.field("justice", &self.justice).field("symbols", &self.symbols).finish()
+        made.field("nodes", nodes).field("inputs", inputs).field("latchs", latchs);
+        made.field("outputs", outputs).field("bads", bads).field("constraints", constraints);
+        made.field("justice", justice).field("fairness", fairness).field("symbols", symbols).finish()
     }
 }
 
