@@ -200,7 +200,7 @@ def python_handle_calls():
 
 
 def python_files(found):
-    head = f'"""The calls of `aig.h`, for the module aig: {WRITTEN}."""\nfrom __future__ import annotations\n\n'
+    head = f'"""The calls of `aig.h`, for the package aig: {WRITTEN}."""\nfrom __future__ import annotations\n\n'
     head += f"from aig._library import {', '.join(sorted([*SHARED, *RESULTS.values()]))}\n\n"
     takes = "\n".join(f'    "{call.full}": [{", ".join(PYTHON[kind] for kind, _ in call.parameters)}],' for call in found)
     names = textwrap.indent(textwrap.fill(" ".join(f'"{call.name}",' for call in found if call.is_plain), WIDTH - 4), "    ")
