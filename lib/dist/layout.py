@@ -20,6 +20,8 @@ CRATES = TOP / "crates"
 ARCHIVE = TOP / "tests" / "support" / "archive.py"
 PROGRAMS = ["aigtool", "aigedit", "aigcheck"]
 HEADERS = ["aig.h", "aig_circuit.h", "aig.hpp"]
+# Where the package for Python lies, in the repository and below a prefix, and what it has.
+PACKAGE = "lib/python/aig"
 MODULES = ["__init__.py", "_calls.py", "_circuits.py", "_library.py", "py.typed"]
 # By which programs ask for the shared library. Its number is that of incompatible versions.
 SONAME = f"libaig.so.{VERSION.partition('.')[0]}"
@@ -83,7 +85,7 @@ def libraries() -> Tree:
     build_library()
     return {
         **{f"include/{name}": read(TOP / "include", name) for name in HEADERS},
-        **{f"lib/python/aig/{name}": read(TOP / "lib" / "python" / "aig", name) for name in MODULES},
+        **{f"{PACKAGE}/{name}": read(TOP / PACKAGE, name) for name in MODULES},
         "lib/libaig.a": File(library("libaig.a").read_bytes()),
         f"lib/{SONAME}": File(library("libaig.so").read_bytes()),
         "lib/libaig.so": Link(SONAME),
@@ -95,9 +97,9 @@ def environment(prefix: pathlib.Path) -> Tree:
     """Returns the links by which Python finds the package: below a prefix that is an environment
     of it, or that this Python looks below, such as /usr/local."""
     sites = {prefix / "lib/python{}.{}/site-packages".format(*sys.version_info[:2])}
-    sites |= {it for it in map(pathlib.Path, site.getsitepackages()) if prefix / "lib" in it.parents}
-    package = prefix / "lib" / "python" / "aig"
-    return {str((it / "aig").relative_to(prefix)): Link(os.path.relpath(package, it))
+    known = map(pathlib.Path, site.getsitepackages())
+    sites |= {it for it in known if prefix / "lib" in it.parents}
+    return {str((it / "aig").relative_to(prefix)): Link(os.path.relpath(prefix / PACKAGE, it))
             for it in sites}
 
 

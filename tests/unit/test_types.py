@@ -65,9 +65,9 @@ def test_installed(folder: pathlib.Path) -> None:
     harness.output([sys.executable, "-m", "venv", "--without-pip", folder / "made"])
     site, = (folder / "made" / "lib").glob("python*/site-packages")
     (site / "aig").symlink_to(TOP / "lib" / "python" / "aig")
-    words = ["mypy", "--strict", "--cache-dir", folder / "types", "--python-executable", python]
-    callers = ["threads.py", "signals.py"]
-    status, printed, said = harness.run([*words, *callers], cwd=TESTS / "clients", timeout=600)
+    words: list[str | os.PathLike[str]] = ["mypy", "--strict", "--cache-dir", folder / "types"]
+    words += ["--python-executable", python, "threads.py", "signals.py"]
+    status, printed, said = harness.run(words, cwd=TESTS / "clients", timeout=600)
     assert status == 0, (printed + said).decode()
 
 
