@@ -78,7 +78,8 @@ def measure(file: pathlib.Path, programs: Sequence[pathlib.Path], step: int, tim
         solver = timed(["cadical", "-q", clauses], times)
         abc = timed(["berkeley-abc", "-q", f"read_aiger {file}; logic; undc; strash; zero; fold; bmc3 -F {step + 1}"], times)
     found = Times(checking, plain, solver, abc)
-    row(file.stem, last if lines else "none", *(f"{it:.2f}" for it in found), *(f"{part:.2f}" for part in found.parts))
+    shown = (f">{MOST}" if it == MOST else f"{it:.2f}" for it in found)
+    row(file.stem, last if lines else "none", *shown, *(f"{part:.2f}" for part in found.parts))
     return found
 
 

@@ -16,10 +16,6 @@ import aig
 OFF = "compact decompose elim inprocessing lucky probe subsume ternary transred vivify walk"
 
 
-def literal(edge: int) -> int:
-    return (-1 if edge % 2 else 1) * (edge // 2 + 1)
-
-
 class Solver:
     """cadical, and the clauses that it learns, as a proof."""
 
@@ -37,8 +33,9 @@ class Solver:
         for number in numbers:
             self.calls.ccadical_add(self.held, number)
 
-    def is_reached(self, bad: int) -> bool:
-        """Returns whether a literal can be true. If not, it is false from now on."""
+    def is_reached(self, edge: int) -> bool:
+        """Returns whether a bad edge can be true. If not, it is false from now on."""
+        bad = (-1 if edge % 2 else 1) * (edge // 2 + 1)
         self.calls.ccadical_assume(self.held, bad)
         if self.calls.ccadical_solve(self.held) == 10:
             return True
@@ -64,7 +61,7 @@ def main() -> int:
     solver.add(steps.initial_clauses())
     for k in range(bound + 1):
         solver.add(steps.step_clauses(k))
-        if solver.is_reached(literal(steps.bads(k)[-1])):
+        if solver.is_reached(steps.bads(k)[-1]):
             bad = solver.row(steps.bads(k)).index("1")
             print(f"1\nb{bad}", *map(solver.row, [leaves, *inputs]), ".", sep="\n")
             return 1

@@ -22,6 +22,7 @@ from languages import rust_program
 EXAMPLE = {"examples/permits.aag": 2}
 # The last step, and the steps for which an example has its answers checked.
 BOUND, CHECKED = 6, (0, 1, 3, 6)
+MOST_LINES = 80
 ARCHIVE = "-l:libcadical.a"
 
 
@@ -90,6 +91,13 @@ def check(
         run = [str(aigcheck), "run", str(path), str(folder / "witness")]
         shown = 0, f"b0 at step {step}\n".encode()
         checks.wants(f"{example.language}: the witness of {path.name}", shown, harness.run(run)[:2])
+
+
+@pytest.mark.parametrize("language", ["cpp", "rs", "py"])
+def test_length(language: str) -> None:
+    """An example is short."""
+    text = (TOP / "examples" / f"incremental.{language}").read_text(encoding="utf-8")
+    assert text.count("\n") <= MOST_LINES
 
 
 @pytest.mark.cpp
