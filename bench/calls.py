@@ -1,10 +1,10 @@
 #!/usr/bin/env python3
 """Compares calls in the same process with the programs: run calls FILE ..
 
-For each file, the script solves the queries for the steps from 0 up to a bound, as long as they have no solution. It prints how long
-checking their proofs takes by `check_refuted` of lib/python/aig.py, and by a process of aigcheck for each step. For a large circuit,
-which it generates, it compares each call that prints with its program. Times are in processor seconds, the least of several runs. The
-script needs cadical, and the libraries that tests/support/archive.py builds.
+For each file it takes the queries for the steps 0 to a bound, as far as they have no solution, and prints how long checking their proofs
+takes: by `check_refuted` of lib/python/aig, and by a process of aigcheck for each. And for a large circuit, which it makes, each call
+that prints beside its program. In processor seconds, the least of some runs. It needs cadical, and the libraries that tests/support/archive.py
+builds.
 """
 import os
 import pathlib

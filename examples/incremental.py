@@ -5,8 +5,6 @@ libcadical.a:
 
     g++ -shared -o libcadical.so -Wl,--whole-archive -l:libcadical.a -Wl,--no-whole-archive
 """
-from __future__ import annotations
-
 import ctypes
 import itertools
 import sys
@@ -17,10 +15,6 @@ import aig
 
 # What could make clauses that aren't learned.
 OFF = "compact decompose elim inprocessing lucky probe subsume ternary transred vivify walk"
-
-
-def literal(edge: int) -> int:
-    return (-1 if edge % 2 else 1) * (edge // 2 + 1)
 
 
 class Solver:
@@ -40,41 +34,45 @@ class Solver:
         for number in numbers:
             self.calls.ccadical_add(self.held, number)
 
-    def solve(self, assumed: int) -> bool:
-        """Returns whether the clauses can be satisfied under the assumption that a literal is true.
-        """
-        self.calls.ccadical_assume(self.held, assumed)
-        return bool(self.calls.ccadical_solve(self.held) == 10)
+    def is_reached(self, edge: int) -> bool:
+        """Returns whether a bad edge can be true. If not, it is false from now on."""
+        bad = (-1 if edge % 2 else 1) * (edge // 2 + 1)
+        self.calls.ccadical_assume(self.held, bad)
+        if self.calls.ccadical_solve(self.held) == 10:
+            return True
+        self.add([-bad, 0])
+        self.proof += [-bad, 0]
+        return False
 
-    def solution(self, variables: int) -> bytes:
-        """Returns the values of the first variables, in the format of solvers."""
-        values = (self.calls.ccadical_val(self.held, it + 1) for it in range(variables))
-        return f"s SATISFIABLE\nv {' '.join(map(str, values))} 0\n".encode()
-
-    def refutation(self) -> bytes:
-        """Returns the proof, with the empty clause at its end."""
-        return (" ".join(map(str, [*self.proof, 0])).replace(" 0 ", " 0\n") + "\n").encode()
+    def row(self, edges: Iterable[int]) -> str:
+        """Returns the values of edges, as digits."""
+        values = ((self.calls.ccadical_val(self.held, it // 2 + 1) > 0) != it % 2 for it in edges)
+        return "".join(str(int(value)) for value in values)
 
 
 def main() -> int:
-    solver, file = Solver(sys.argv[1]), Path(sys.argv[2]).read_bytes()
-    steps, variables = aig.Unrolling(aig.Circuit.from_aiger(file)), 0
+    solver, circuit = Solver(sys.argv[1]), aig.Circuit.from_aiger(Path(sys.argv[2]).read_bytes())
+    leaves = [2 * latch.input for latch in circuit.latchs()]
+    # The last bad edge is true once any was, so that a proof about a step is about all before.
+    last = circuit.new_ors_node([2 * circuit.new_latch(0, init=0), *circuit.bads])
+    circuit.set_next(len(leaves), last)
+    circuit.push_edge(aig.BADS, last)
+    steps, bound = aig.Unrolling(circuit), int(sys.argv[3]) if sys.argv[3:] else 10
+    inputs = [[2 * node for node in circuit.inputs]]
     solver.add(steps.initial_clauses())
-    for k in range(int(sys.argv[3]) + 1 if sys.argv[3:] else 11):
-        if k > 0:
-            steps.add_step()
-        clauses = steps.step_clauses(k)
-        solver.add(clauses)
-        variables = max([variables, *(abs(number) for number in clauses)])
-        for bad in map(literal, steps.bads(k)):
-            if solver.solve(bad):
-                found = aig.witness(file, k, solver.solution(variables), optimize=False)
-                print(found.decode(), end="")
-                return 1
-            solver.add([-bad, 0])
-            solver.proof += [-bad, 0]
-        steps.check_refuted(k, solver.refutation())
-        print(f"no bad state at step {k}")
+    for k in range(bound + 1):
+        solver.add(steps.step_clauses(k))
+        if solver.is_reached(steps.bads(k)[-1]):
+            bad = solver.row(steps.bads(k)).index("1")
+            print(f"1\nb{bad}", *map(solver.row, [leaves, *inputs]), ".", sep="\n")
+            return 1
+        # All checks together take about as long as the last two.
+        if k & (k + 1) == 0 or k == bound:
+            proof = " ".join(map(str, [*solver.proof, 0])).replace(" 0 ", " 0\n") + "\n"
+            steps.check_refuted(k, proof.encode())
+            print(f"no bad state up to step {k}")
+        steps.add_step()
+        inputs.append([2 * node for node in steps.added_inputs(k + 1)])
     return 0
 
 

@@ -1,11 +1,10 @@
 #!/usr/bin/env python3
 """Writes the clients of the library for C from include/aig.h.
 
-The declarations of the header and their comments are the table of the calls. From this table, the script generates
-lib/python/aig_calls.py, lib/rust/src/calls.rs and made.rs. It also generates tests/clients/made.h and made.rs, with which tests run rows
-by each call that returns bytes or numbers or checks something. For the calls on circuits in memory it generates only the declarations,
-for Python in aig_calls.py and for Rust in handle_calls.rs. A call with one number returns this number, and a call with several numbers
-returns the type in RESULTS, which is written by hand. Calls with other results are written by hand, too.
+The header's declarations and their comments are the table of the calls. Of it are made lib/python/aig/_calls.py, lib/rust/src/calls.rs and
+made.rs, and tests/clients/made.h and made.rs, by which rows are run through each call that gives bytes or numbers or checks something. Of
+the calls on circuits in memory only the declarations are made, for Python in _calls.py and for Rust in handle_calls.rs.
+One number is returned alone, and several as what RESULTS says, which is written by hand, as is each call with other results.
 
 These files aren't in git. ./install, lib/rust/build.rs and the tests run this script. A file that is up to date isn't written again.
 """
@@ -27,7 +26,7 @@ RUST |= {"aig_circuit_t*": "*mut Handle", "aig_simulation_t*": "*mut Handle", "a
 RUST |= {"bool*": "*mut bool", "uint32_t*": "*mut u32", "const uint32_t*": "*const u32", "const size_t*": "*const usize"}
 PYTHON = {"uint8_t*": "_U8", "int32_t*": "_I32", "size_t*": "_SIZES", "const uint8_t*": "_TEXT"}
 PYTHON |= {"size_t": "_size", "uint64_t": "_step", "uint32_t": "_U32", "bool": "_bool"}
-# The names that the calls in Python import from lib/python/aig_library.py.
+# What the calls in Python take from lib/python/aig/_library.py.
 SHARED = "_I32 _POINTER _SIZES _TEXT _U32 _U8 _bool _bytes _declare _given _hold _number _size _step _steps _told".split()
 # The types that clients in Rust and Python return for several numbers. Their fields have the names of the numbers.
 RESULTS = {("bad", "step"): "Shown", ("justice", "start", "last"): "Lasso"}
@@ -201,12 +200,12 @@ def python_handle_calls():
 
 
 def python_files(found):
-    head = f'"""The calls of `aig.h`, for the module aig: {WRITTEN}."""\nfrom __future__ import annotations\n\n'
-    head += f"from aig_library import {', '.join(sorted([*SHARED, *RESULTS.values()]))}\n\n"
+    head = f'"""The calls of `aig.h`, for the package aig: {WRITTEN}."""\nfrom __future__ import annotations\n\n'
+    head += f"from aig._library import {', '.join(sorted([*SHARED, *RESULTS.values()]))}\n\n"
     takes = "\n".join(f'    "{call.full}": [{", ".join(PYTHON[kind] for kind, _ in call.parameters)}],' for call in found)
     names = textwrap.indent(textwrap.fill(" ".join(f'"{call.name}",' for call in found if call.is_plain), WIDTH - 4), "    ")
     text = f"# What each call takes.\n_declare({{\n{takes}\n}})\n{python_handle_calls()}\n__all__ = [\n{names}\n]\n"
-    yield "lib/python/aig_calls.py", head + text + "".join("\n\n" + python_call(call) for call in found if call.is_plain)
+    yield "lib/python/aig/_calls.py", head + text + "".join("\n\n" + python_call(call) for call in found if call.is_plain)
 
 
 # ---- C

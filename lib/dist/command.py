@@ -95,7 +95,8 @@ def install(prefix: pathlib.Path) -> None:
     tree: Tree = {**programs(built()), **documents()}
     if shutil.which(compiler):
         absolute = pkg_config(str(prefix.absolute()), "lib", RPATH)
-        tree = {**tree, **libraries(), **environment(), "lib/pkgconfig/aig.pc": absolute}
+        linked = environment(prefix.absolute())
+        tree = {**tree, **libraries(), **linked, "lib/pkgconfig/aig.pc": absolute}
     else:
         print("install: there is no C compiler, so the library for C is left out", file=sys.stderr)
     package = prefix / "lib" / "aigprove"

@@ -1,7 +1,9 @@
 """The files of a release, and their paths below a prefix."""
 from __future__ import annotations
 
+import os
 import pathlib
+import site
 import subprocess
 import sys
 import tempfile
@@ -18,7 +20,9 @@ CRATES = TOP / "crates"
 ARCHIVE = TOP / "tests" / "support" / "archive.py"
 PROGRAMS = ["aigtool", "aigedit", "aigcheck"]
 HEADERS = ["aig.h", "aig_circuit.h", "aig.hpp"]
-MODULES = ["aig.py", "aig_calls.py", "aig_circuits.py", "aig_library.py"]
+# Where the package for Python lies, in the repository and below a prefix, and what it has.
+PACKAGE = "lib/python/aig"
+MODULES = ["__init__.py", "_calls.py", "_circuits.py", "_library.py", "py.typed"]
 # The name with which programs refer to the shared library. Its number changes with each
 # incompatible version.
 SONAME = f"libaig.so.{VERSION.partition('.')[0]}"
@@ -82,7 +86,7 @@ def libraries() -> Tree:
     build_library()
     return {
         **{f"include/{name}": read(TOP / "include", name) for name in HEADERS},
-        **{f"lib/python/{name}": read(TOP / "lib" / "python", name) for name in MODULES},
+        **{f"{PACKAGE}/{name}": read(TOP / PACKAGE, name) for name in MODULES},
         "lib/libaig.a": File(library("libaig.a").read_bytes()),
         f"lib/{SONAME}": File(library("libaig.so").read_bytes()),
         "lib/libaig.so": Link(SONAME),
@@ -90,10 +94,14 @@ def libraries() -> Tree:
     }
 
 
-def environment() -> Tree:
-    """Returns the links that let Python find the modules if the prefix is a virtual environment."""
-    site = "lib/python{}.{}/site-packages".format(*sys.version_info[:2])
-    return {f"{site}/{name}": Link(f"../../python/{name}") for name in MODULES}
+def environment(prefix: pathlib.Path) -> Tree:
+    """Returns the links by which Python finds the package: below a prefix that is an environment
+    of it, or that this Python looks below, such as /usr/local."""
+    sites = {prefix / "lib/python{}.{}/site-packages".format(*sys.version_info[:2])}
+    known = map(pathlib.Path, site.getsitepackages())
+    sites |= {it for it in known if prefix / "lib" in it.parents}
+    return {str((it / "aig").relative_to(prefix)): Link(os.path.relpath(prefix / PACKAGE, it))
+            for it in sites}
 
 
 def pages() -> Tree:

@@ -47,7 +47,7 @@ def placed(path: str, scripts: str, info: str) -> str | None:
     for place in ["lib/aigprove/", "lib/python/"]:
         if path.startswith(place):
             return path.removeprefix("lib/").removeprefix("python/")
-    return "libaig.so" if path.startswith("lib/libaig.so.") else None
+    return "aig/libaig.so" if path.startswith("lib/libaig.so.") else None
 
 
 def files(tree: Tree, known: Release, maintainer: str, licence: str, systems: str) -> Tree:

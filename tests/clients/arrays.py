@@ -1,10 +1,22 @@
-"""Checks that numpy takes what the module aig gives without a copy, of a circuit that is worked out
-by hand: two inputs, a latch, and the and of the first input and the inverse of the second."""
+"""Checks that numpy takes what the package aig gives without a copy, and that the package takes
+arrays, of a circuit that is worked out by hand: two inputs, a latch, and the and of the first input
+and the inverse of the second."""
 from __future__ import annotations
 
 import numpy
 
 import aig
+
+
+def check_taken(circuit: aig.Circuit) -> None:
+    """Gives arrays to calls: edges, nodes, and values in each size of numbers."""
+    circuit.set_edges(aig.BADS, numpy.array([6, 7]))
+    assert circuit.bads.tolist() == [6, 7]
+    assert bytes(circuit.coi(numpy.array([1]))) == bytes([1, 1, 0, 0, 0])
+    for kind in (bool, numpy.uint8, numpy.int32, numpy.int64):
+        inputs, state = numpy.array([1, 0], dtype=kind), numpy.array([0], dtype=kind)
+        # In order: false, both inputs, the gate, and the latch; then the first input is stored.
+        assert circuit.simulate(state, inputs) == (bytes([0, 1, 0, 1, 0]), b"\1"), kind
 
 
 def main() -> None:
@@ -15,6 +27,7 @@ def main() -> None:
         nodes, latches = circuit.nodes_buffer(), circuit.latchs_buffer()
         views = [circuit.inputs, circuit.outputs, circuit.coi([3]), circuit.cnf(), nodes, latches]
         arrays = [numpy.asarray(view) for view in views]
+        check_taken(circuit)
     for view, array in zip(views, arrays):
         assert numpy.shares_memory(array, numpy.frombuffer(view, dtype=numpy.uint8)), view
     inputs, outputs, cone, numbers, table, rows = arrays

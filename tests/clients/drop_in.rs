@@ -1,10 +1,12 @@
 //! Calls each item that tests/clients/surface.tsv lists, as a caller of the crate aig does, on circuits that are worked out by hand. Each panic
 //! that the crate documents is caught once.
 
+#[allow(unused_imports)]
+use aig::cnf;
 use aig::{Aig, AigEdge, AigLatch, AigNode, AigNodeType, Lbool, Lit, PropList, TernarySimulate, Var};
 use std::cmp::Ordering;
 use std::collections::{HashMap, HashSet};
-use std::panic::{catch_unwind, AssertUnwindSafe};
+use std::panic::{catch_unwind, AssertUnwindSafe, RefUnwindSafe};
 
 fn edge(id: usize) -> AigEdge {
     AigEdge::from(id)
@@ -159,7 +161,8 @@ fn properties() {
     assert!(aig.outputs.is_empty() && aig.fairness.is_empty() && aig.justice.is_empty());
     let text = "aag 4 2 0 0 2 1 1\n2\n4\n9\n4\n6 5 2\n8 6 5\ni0 x\n";
     assert_eq!((format!("{aig}"), aig.write_text().unwrap()), (text.to_string(), text.into()));
-    assert!(format!("{:?}", Aig::default()).starts_with("Aig { nodes: [AigNode { id: 0, typ: False }], inputs: [], latchs: []"));
+    let fields = "nodes: [AigNode { id: 0, typ: False }], inputs: [], latchs: [], outputs: [], bads: [], constraints: [], justice: [], fairness: []";
+    assert_eq!(format!("{:?}", Aig::default()), format!("Aig {{ {fields}, symbols: {{}} }}"));
 }
 
 fn transforms() {
@@ -215,6 +218,10 @@ fn machines() {
     }).collect();
     assert_eq!(found, [false, false, false, true].map(value));
     assert!(panics(|| simulation.value(edge(99))) && panics(|| simulation.simulate(vec![])));
+    // A simulation goes to another thread, and both types are what may be seen after a panic.
+    fn is_sent<T: Send + RefUnwindSafe>(_: &T) {}
+    is_sent(&simulation);
+    is_sent(&aig);
     aig.gate_init_to_constraint();
     assert_eq!((aig.latchs.len(), aig.latchs[0].init, aig.constraints.len()), (3, None, 1));
 }

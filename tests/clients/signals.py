@@ -36,6 +36,9 @@ def check_signals() -> None:
         assert (x | ~x).literal == 1 and (x & True).literal == 2 and (False | x).literal == 2
         # The equality of two inputs takes nodes 5, 6 and 7, and is the inverse of 7.
         assert (x ^ y).literal == 14 and x.equals(x).literal == 1 and x.implies(x).literal == 1
+        # Comparing signals adds no gate.
+        assert x == circuit.signal(2) and x != y and x != foreign and len({x, ~x, ~~x}) == 2
+        assert [node.kind for node in circuit] == [0, *[aig.LEAF] * 2, *[aig.AND] * 5]
 
 
 def check_circuits() -> None:

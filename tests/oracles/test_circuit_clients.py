@@ -8,7 +8,7 @@ has to print: its status, what it tells, and a sum of all that is held.
 Clients get memory for answers as these need it, so that no call ends with SMALL here. C++ is
 compiled with and without exceptions, by each of g++ and clang++ that there is. Signals are checked,
 too (signals.cpp, signals.py), and of Python that threads may share a circuit (threads.py) and that
-numpy takes lists as they are (arrays.py). A script depends on its number alone.
+numpy takes lists as they are (arrays.py). A script depends on its number and on --seed alone.
 """
 from __future__ import annotations
 
@@ -17,9 +17,11 @@ import os
 import pathlib
 import random
 import sys
+from collections.abc import Sequence
 
 import harness
 import pytest
+import strategies
 from damaged import made_file
 from harness import Checks
 from languages import CLIENTS, INCLUDE, cpp_programs, rust_program
@@ -29,8 +31,9 @@ from reference.header import Call
 from reference.scripts import END, GREATEST_NUMBER, Script, Word, Writer
 from test_circuits import LINES, first_fault
 
-# How many scripts a client runs, by its own process, and for how many seconds it may.
-SCRIPTS, SECONDS = 150, 1000
+# How many scripts a client runs, how many with --long, and how many of them in one process, which
+# has so many seconds.
+SCRIPTS, MANY, BATCH, SECONDS = 150, 10_000, 500, 1000
 
 
 class Roomy(Script):
@@ -52,15 +55,12 @@ class Client:
 
 def made(calls: dict[str, Call], statuses: dict[str, int], number: int) -> Script:
     """Returns the script of a number."""
-    rng = random.Random(1_000_003 + number)
+    rng = random.Random(1_000_003 * strategies.seed + number)
     return Writer(rng, calls, Roomy(statuses), made_file).fill(LINES)
 
 
-def faults(client: Client) -> list[str]:
+def faults(client: Client, scripts: Sequence[Script]) -> list[str]:
     """Returns the first line of each script that a client prints otherwise."""
-    calls = {call.name: call for call in header.calls(INCLUDE)}
-    statuses = header.statuses(INCLUDE)
-    scripts = [made(calls, statuses, number) for number in range(SCRIPTS)]
     text = "".join(line.text + "\n" for script in scripts for line in [*script.lines, END])
     environment = {**os.environ, **dict(client.environment)}
     status, out, said = harness.run(
@@ -73,10 +73,17 @@ def faults(client: Client) -> list[str]:
     return found
 
 
-def check_scripts(checks: Checks, client: Client) -> None:
-    """Has a client run all scripts."""
-    checks.wants(f"scripts in {client.name}", [], faults(client)[:2])
-    checks.passed += SCRIPTS - 1
+def check_scripts(checks: Checks, *clients: Client) -> None:
+    """Has each client run all scripts."""
+    calls = {call.name: call for call in header.calls(INCLUDE)}
+    statuses = header.statuses(INCLUDE)
+    count = MANY if strategies.is_long else SCRIPTS
+    for first in range(0, count, BATCH):
+        numbers = range(first, min(first + BATCH, count))
+        scripts = [made(calls, statuses, number) for number in numbers]
+        for client in clients:
+            checks.wants(f"scripts in {client.name}", [], faults(client, scripts)[:2])
+            checks.passed += len(scripts) - 1
 
 
 def environment_of(library: pathlib.Path) -> dict[str, str]:
@@ -88,8 +95,8 @@ def environment_of(library: pathlib.Path) -> dict[str, str]:
 @pytest.mark.cpp
 def test_cpp(library: pathlib.Path, checks: Checks) -> None:
     """Scripts in C++, by each compiler, with exceptions and without."""
-    for how, program in cpp_programs(library, "circuits"):
-        check_scripts(checks, Client(how, (program,)))
+    programs = cpp_programs(library, "circuits")
+    check_scripts(checks, *(Client(how, (program,)) for how, program in programs))
 
 
 @pytest.mark.cpp

@@ -10,6 +10,7 @@ import json
 import os
 import pathlib
 import shutil
+import site
 import subprocess
 import sys
 from collections.abc import Iterator
@@ -18,6 +19,8 @@ from typing import NamedTuple
 import fresh_root
 import harness
 import pytest
+from dist.files import Link
+from dist.layout import environment
 from fresh_root import PATH
 from harness import TOP, Checks
 
@@ -127,6 +130,18 @@ PRINTED = r"b'aag 1 1 0 1 0\n2\n3\n'" + "\n"
 def calling(python: str) -> str:
     """Returns the part of a script that calls the library by this Python."""
     return f"cat > calling.py <<'end'\n{PYTHON}end\n{python} calling.py\nmark library\n"
+
+
+def test_python_links(monkeypatch: pytest.MonkeyPatch, checks: Checks) -> None:
+    """An installation is found by a Python that looks below its prefix, without a variable."""
+    version = "python{}.{}".format(*sys.version_info[:2])
+    sites = [f"/usr/local/lib/{version}/dist-packages", "/usr/lib/python3/dist-packages"]
+    monkeypatch.setattr(site, "getsitepackages", lambda: sites)
+    own = {f"lib/{version}/site-packages/aig": Link("../../python/aig")}
+    other = {f"lib/{version}/dist-packages/aig": Link("../../python/aig")}
+    wanted = {"/usr/local": own | other, "/opt/aig": own}
+    for prefix, links in wanted.items():
+        checks.wants(f"links below {prefix}", links, environment(pathlib.Path(prefix)))
 
 
 @pytest.mark.root

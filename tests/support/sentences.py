@@ -21,7 +21,7 @@ BLOCK = re.compile(r"^ *```.*?^ *```$|<!--.*?-->", re.DOTALL | re.MULTILINE)
 # Where a sentence ends: after its mark, before a capital or a backquote, or before a list item.
 END = re.compile(r"(?<=[.?!:])(?<!\.\.)\s+(?:- )?(?=[A-Z`*\[\"(])")
 # Modules that are made of the headers.
-MADE = ["aig_calls.py"]
+MADE = ["_calls.py"]
 # What isn't a word of a sentence: code, and targets of links.
 NO_WORD = re.compile(r"`[^`]*`|\]\([^)]*\)|[^A-Za-z\s'-]")
 # What begins an item, a heading or a cell.

@@ -88,7 +88,7 @@ class Cases:
         self.kept = settings(phases=[Phase.reuse, Phase.shrink])(test)
 
     def try_kept(self, fixtures: dict[str, Any]) -> None:
-        """Tries the stored cases, and fails with the smallest failing case that hypothesis finds."""
+        """Tries the stored cases, and fails with the smallest failing case that it finds."""
         __tracebackhide__ = True
         # Hypothesis raises these if it has stored no case, or none that the test can still read.
         with contextlib.suppress(unittest.SkipTest, hypothesis.errors.Unsatisfiable):

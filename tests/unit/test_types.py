@@ -14,7 +14,7 @@ from harness import TESTS, TOP
 SUPPORT = TESTS / "support"
 # Modules of tests/support, and others of tests, whose types fit.
 TYPED_SUPPORT = """aiger archive commands faults fixtures kit languages lines promises reasons room
-scripts shown sources strategies tables theorems trials""".split()
+scripts shown sources strategies surface tables theorems trials""".split()
 TYPED_TESTS = """oracles/test_circuits oracles/test_circuit_clients oracles/test_incremental
 oracles/test_stepwise oracles/test_subjects prove/test_promises prove/test_widths rows/test_answers
 rows/test_calling rows/test_completion rows/test_drop_in rows/test_first_commands rows/test_memory
@@ -31,14 +31,14 @@ TYPED = {
         "--follow-imports=silent", "conftest.py", "support/harness.py",
         *(f"{name}.py" for name in TYPED_TESTS),
     ],
-    TOP / "lib" / "python": ["aig.py", "aig_library.py", "aig_circuits.py", "aig_calls.py"],
+    TOP / "lib" / "python": ["-p", "aig"],
     TOP / "examples": ["--follow-imports=silent", "incremental.py"],
     TESTS / "clients": ["--follow-imports=silent", "circuits.py", "threads.py", "signals.py"],
 }
 LAID_OUT = {
     TOP / "lib": ["aigprove", "dist"],
     TESTS: ["--exclude", "failed"],
-    TOP / "lib" / "python": ["aig.py", "aig_library.py", "aig_circuits.py"],
+    TOP / "lib" / "python": ["--exclude", "_calls.py", "aig"],
     TOP / "examples": ["incremental.py"],
 }
 
@@ -55,6 +55,20 @@ def test_types(folder: pathlib.Path, place: pathlib.Path) -> None:
         *TYPED[place],
     ]
     status, printed, said = harness.run(words, cwd=place, env=environment, timeout=600)
+    assert status == 0, (printed + said).decode()
+
+
+@pytest.mark.typed
+def test_installed(folder: pathlib.Path) -> None:
+    """mypy finds the types of the package aig where it is installed, without a path to it."""
+    harness.output([TOP / "lib" / "clients.py"])
+    python = folder / "made" / "bin" / "python"
+    harness.output([sys.executable, "-m", "venv", "--without-pip", folder / "made"])
+    site, = (folder / "made" / "lib").glob("python*/site-packages")
+    (site / "aig").symlink_to(TOP / "lib" / "python" / "aig")
+    words: list[str | os.PathLike[str]] = ["mypy", "--strict", "--cache-dir", folder / "types"]
+    words += ["--python-executable", python, "threads.py", "signals.py"]
+    status, printed, said = harness.run(words, cwd=TESTS / "clients", timeout=600)
     assert status == 0, (printed + said).decode()
 
 

@@ -10,6 +10,7 @@ use std::collections::{HashMap, HashSet};
 use std::fmt::{self, Debug, Display};
 use std::fs;
 use std::ops::{Deref, Index, Range};
+use std::panic::RefUnwindSafe;
 use std::path::Path;
 
 /// The initial size of the buffer for a list.
@@ -99,6 +100,9 @@ pub struct Aig {
     /// A copy of the circuit's contents, if it was loaded since the last change that doesn't update it.
     lists: OnceCell<Lists>,
 }
+
+// A call that panics leaves the circuit as it was, and the lists are put there as a whole.
+impl RefUnwindSafe for Aig {}
 
 /// Returns the literal of an edge, whose node has to be below 2^31.
 #[track_caller]
@@ -757,12 +761,11 @@ impl Display for Aig {
 
 impl Debug for Aig {
     fn fmt(&self, f: &mut fmt::Formatter<'_>) -> fmt::Result {
+        let Lists { nodes, inputs, latchs, outputs, bads, constraints, justice, fairness, symbols } = &**self;
         let mut made = f.debug_struct("Aig");
-        made.field("nodes", &self.nodes).field("inputs", &self.inputs).field("latchs", &self.latchs);
-        for (name, list) in ["outputs", "bads", "constraints", "fairness"].into_iter().zip(PropList::ALL) {
-            made.field(name, &self.edges(list));
-        }
-        made.field("justice", &self.justice).field("symbols", &self.symbols).finish()
+        made.field("nodes", nodes).field("inputs", inputs).field("latchs", latchs);
+        made.field("outputs", outputs).field("bads", bads).field("constraints", constraints);
+        made.field("justice", justice).field("fairness", fairness).field("symbols", symbols).finish()
     }
 }
 

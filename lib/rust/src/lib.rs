@@ -19,6 +19,9 @@ mod made;
 mod ternary;
 mod unrolling;
 
+/// Nothing: clauses are made by `Aig::cnf`, and the crate aig has this module, too.
+pub mod cnf {}
+
 pub use circuit::{Aig, Lists, PropList};
 pub use edge::{AigEdge, AigLatch, AigNode, AigNodeType};
 pub use logic::{DagCnf, Lbool, Lit, LitVvec, Var, VarVMap};

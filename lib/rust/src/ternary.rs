@@ -6,12 +6,17 @@ use crate::handle_calls as calls;
 use crate::held::{taken, Held};
 use crate::logic::Lbool;
 use std::marker::PhantomData;
+use std::panic::RefUnwindSafe;
 
 /// A simulation of a circuit: the state in which its next step begins, and the values of the nodes in its last step.
 pub struct TernarySimulate<'a> {
     held: Held,
-    circuit: PhantomData<&'a Aig>,
+    /// The circuit is borrowed, though the simulation has a copy.
+    circuit: PhantomData<&'a ()>,
 }
+
+// A call that panics leaves the simulation as it was.
+impl RefUnwindSafe for TernarySimulate<'_> {}
 
 // SAFETY of each call: a pointer and a length are of a slice that is borrowed for the call, and what is written is apart from it.
 impl<'a> TernarySimulate<'a> {

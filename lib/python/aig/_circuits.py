@@ -1,5 +1,5 @@
 """Circuits in memory, simulations of them, and circuits that are unrolled step by step, for the
-module aig.
+package aig.
 
 A circuit is a list of nodes. Node 0 is false, and each other node is a leaf or the and of two edges
 to nodes before it. An edge is a literal: twice the number of its node, plus 1 if the edge is
@@ -29,7 +29,7 @@ from collections.abc import Callable, Iterable, Iterator, Mapping
 from types import TracebackType
 from typing import Any, NamedTuple, SupportsIndex, TypeVar
 
-from aig_library import DONE, SMALL, Refused, _library, _refusal
+from aig._library import DONE, SMALL, Refused, _given, _library, _refusal
 
 __all__ = [
     "AND", "BADS", "CONSTRAINTS", "Circuit", "FAIRNESS", "FALSE", "LEAF", "Latch", "Node",
@@ -48,6 +48,7 @@ _NO_NAME, _ROOM = 118, 1024
 _MOST_VARIABLES = 1 << 31
 _LATCH = struct.Struct("@NII?0N")
 Edge = SupportsIndex
+Values = Iterable[SupportsIndex]
 
 
 class Node(NamedTuple):
@@ -118,10 +119,9 @@ def _sizes(numbers: Iterable[SupportsIndex]) -> tuple[Any, int]:
     return (ctypes.c_size_t * max(1, len(sizes)))(*sizes), len(sizes)
 
 
-def _bytes(data: Iterable[int]) -> tuple[bytes, int]:
-    """Returns the arguments of a call for bytes or values."""
-    whole = bytes(data)
-    return whole, len(whole)
+def _values(values: Values) -> tuple[bytes, int]:
+    """Returns the words of a call for values, which may be an array of numbers of any size."""
+    return _given(bytes(values if getattr(values, "itemsize", 1) == 1 else list(values)))
 
 
 # The formats of memory views whose items are numbers, by their types in C.
@@ -245,6 +245,15 @@ class Signal:
     def __repr__(self) -> str:
         return f"Signal({self.literal})"
 
+    def __eq__(self, other: object) -> bool:
+        """Returns whether both are the same edge of one circuit, which adds no gate."""
+        if not isinstance(other, Signal):
+            return NotImplemented
+        return self.circuit is other.circuit and self.literal == other.literal
+
+    def __hash__(self) -> int:
+        return hash((id(self.circuit), self.literal))
+
     def _joined(self, join: Callable[[Edge, Edge], int], other: Edge) -> Signal:
         if isinstance(other, Signal) and other.circuit is not self.circuit:
             raise ValueError("the signals are of two circuits")
@@ -288,7 +297,7 @@ class Circuit(_Held):
         """Returns the circuit of a file, text or binary, with at most `limit` variables, including
         the constant false."""
         made = cls()
-        made._do("from_aiger", *_bytes(file), _size(limit))
+        made._do("from_aiger", *_given(file), _size(limit))
         return made
 
     def clone(self) -> Circuit:
@@ -469,7 +478,7 @@ class Circuit(_Held):
     def set_symbol(self, node: int, name: str | bytes) -> None:
         """Sets the name of a node, and replaces an older name."""
         data = name.encode() if isinstance(name, str) else name
-        self._do("set_symbol", _size(node), *_bytes(data))
+        self._do("set_symbol", _size(node), *_given(data))
 
     def symbols(self) -> memoryview:
         """Returns the numbers of the nodes that have names, in increasing order."""
@@ -479,6 +488,9 @@ class Circuit(_Held):
 
     def __len__(self) -> int:
         return self.num_nodes()
+
+    def __iter__(self) -> Iterator[Node]:
+        return self.nodes()
 
     def num_nodes(self) -> int:
         """Returns the number of nodes, including node 0."""
@@ -561,7 +573,7 @@ class Circuit(_Held):
             ctypes.c_bool, "fanin_logic_cone", *_edges(edges), room=self.num_nodes()
         )
 
-    def coi(self, roots: Iterable[int]) -> memoryview:
+    def coi(self, roots: Iterable[SupportsIndex]) -> memoryview:
         """Returns node 0, the given nodes, and all nodes that can be reached from them along
         operands and next edges."""
         return self._list(ctypes.c_bool, "coi", *_sizes(roots), room=self.num_nodes())
@@ -610,16 +622,16 @@ class Circuit(_Held):
         """Returns the clauses as DIMACS numbers, with a 0 after each clause."""
         return self._list(ctypes.c_int32, "cnf", optimize)
 
-    def ternary_simulate(self, inputs: Iterable[int], state: Iterable[int]) -> bytes:
+    def ternary_simulate(self, inputs: Values, state: Values) -> bytes:
         """Returns the value of each node for the given values of inputs and latches."""
-        words = (*_bytes(inputs), *_bytes(state))
+        words = (*_values(inputs), *_values(state))
         return bytes(self._list(ctypes.c_uint8, "ternary_simulate", *words, room=self.num_nodes()))
 
-    def simulate(self, state: Iterable[int], inputs: Iterable[int]) -> tuple[bytes, bytes]:
+    def simulate(self, state: Values, inputs: Values) -> tuple[bytes, bytes]:
         """Simulates one step, and returns the value of each node and the next state."""
-        given, count = _bytes(state)
+        given, count = _values(state)
         after = (ctypes.c_uint8 * max(1, count)).from_buffer_copy(given or b"\0")
-        words = (after, count, *_bytes(inputs))
+        words = (after, count, *_values(inputs))
         values = self._list(ctypes.c_uint8, "simulate", *words, room=self.num_nodes())
         return bytes(values), bytes(after)[:count]
 
@@ -630,9 +642,9 @@ class Simulation(_Held):
 
     _prefix = "simulation"
 
-    def __init__(self, circuit: Circuit, state: Iterable[int]) -> None:
+    def __init__(self, circuit: Circuit, state: Values) -> None:
         super().__init__()
-        _pair("simulation_new", circuit, self, *_bytes(state))
+        _pair("simulation_new", circuit, self, *_values(state))
 
     def clone(self) -> Simulation:
         """Returns a copy."""
@@ -641,9 +653,9 @@ class Simulation(_Held):
         _pair("simulation_clone", self, made)
         return made
 
-    def simulate(self, inputs: Iterable[int]) -> None:
+    def simulate(self, inputs: Values) -> None:
         """Simulates one step with the given inputs, and replaces the state by the next state."""
-        self._do("simulate", *_bytes(inputs))
+        self._do("simulate", *_values(inputs))
 
     def has_value(self, edge: Edge) -> bool:
         """Returns whether an edge has a value. This is the case if a step was simulated and the
@@ -658,10 +670,10 @@ class Simulation(_Held):
         """Returns the state in which the next step begins."""
         return bytes(self._list(ctypes.c_uint8, "state"))
 
-    def simulate_all(self, inputs: Iterable[int], steps: int, edge: Edge) -> bytes:
+    def simulate_all(self, inputs: Values, steps: int, edge: Edge) -> bytes:
         """Simulates several steps, and returns the value of an edge in each step. `inputs` contains
         the values of the inputs for each step, one step after the other."""
-        words = (*_bytes(inputs), _size(steps), _edge(edge))
+        words = (*_values(inputs), _size(steps), _edge(edge))
         return bytes(self._list(ctypes.c_uint8, "simulate_all", *words, room=min(steps, _ROOM)))
 
 
@@ -708,11 +720,11 @@ class Unrolling(_Held):
         """Returns only if no run from an initial state, under the constraints, reaches a bad state
         at the given step. `proof` has to refute the clauses of the steps up to this step, in order,
         those of the initial values, and one clause of the bad edges of the step."""
-        self._do("check_refuted", _size(step), *_bytes(proof))
+        self._do("check_refuted", _size(step), *_given(proof))
 
     def check_inductive(self, k: int, proof: bytes) -> None:
         """Returns only if no run of `k` + 2 steps, from any state and under the constraints, is bad
         only at its last step. `proof` has to refute the clauses of the steps 0 to `k` + 1, in
         order, those which state that each bad edge of the steps 0 to `k` is false, and one clause
         of the bad edges of step `k` + 1."""
-        self._do("check_inductive", _size(k), *_bytes(proof))
+        self._do("check_inductive", _size(k), *_given(proof))

@@ -1,4 +1,4 @@
-"""Loads the library for the module aig, and makes its calls."""
+"""Loads the library for the package aig, and makes its calls."""
 from __future__ import annotations
 
 import ctypes
@@ -9,12 +9,12 @@ from typing import Any, NamedTuple
 DONE, SMALL, MEMORY = 0, 1, 2
 
 _here = pathlib.Path(__file__).resolve().parent
-_PLACES = [_here, _here.parent, _here.parent.parent / "crates" / "aig_calls" / "out"]
+_PLACES = [_here, _here.parents[1], _here.parents[2] / "crates" / "aig_calls" / "out"]
 
 
 def _path() -> str:
-    """Returns the path of the library. This is the value of the environment variable LIBAIG, the
-    first known folder that contains the library, or the name that the system looks up."""
+    """Returns where the library lies: where the environment says, the first place that has it, or
+    where the system finds it."""
     found = [str(path) for place in _PLACES if (path := place / "libaig.so").is_file()]
     return os.environ.get("LIBAIG") or [*found, "libaig.so.1"][0]
 
