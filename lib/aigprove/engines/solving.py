@@ -52,7 +52,7 @@ class Steps(Asking):
         for k in self.steps():
             is_power = k & (k - 1) == 0
             self.job.progress("step", k)
-            ahead = CHECKS if propagates else 0
+            ahead = CHECKS - 1 if propagates else 0
             propagates = (propagates or is_power) and self.propagates(k, ahead)
             if not propagates and self.reaches(Question("query", k)):
                 return
