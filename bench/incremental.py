@@ -13,6 +13,7 @@ from __future__ import annotations
 
 import os
 import pathlib
+import signal
 import statistics
 import subprocess
 import sys
@@ -26,6 +27,8 @@ from harness import CHECK, TESTS, TOP, new_folder, parser
 # The call that checks, and what takes its place.
 CHECKS, NOTHING = "require(steps.check_refuted(k, proof.text + \"0\\n\"));", ""
 LEAST, LONG, MOST = 0.01, 5, 60
+# How a program ends that takes longer.
+STOPPED = [-signal.SIGXCPU, -signal.SIGKILL]
 
 
 class Times(NamedTuple):
@@ -60,8 +63,8 @@ def timed(words: Sequence[object], times: int, out: str | pathlib.Path = os.devn
     found = list[float]()
     while len(found) < times and max(found, default=0) < LONG:
         with open(out, "wb") as into:
-            _, seconds, _ = run(["prlimit", f"--cpu={MOST}", *words], into)
-        found.append(min(max(seconds, LEAST), MOST))
+            status, seconds, _ = run(["prlimit", f"--cpu={MOST}", *words], into)
+        found.append(MOST if status in STOPPED else min(max(seconds, LEAST), MOST))
     return statistics.median(found)
 
 
