@@ -1,18 +1,19 @@
 #!/usr/bin/env python3
 """Measures the incremental model checker of examples/ beside ABC's bmc3: run incremental [--times N] [--library FOLDER] [STEP [DESIGN ..]]
 
-For the designs of tests/designs, or these, up to STEP (50): the first step with a bad state, processor seconds of the example in C++, of it
-without its checks, of cadical about the last of these steps (`aigcheck clauses`), and of ABC's `bmc3`, and what part of the last the example
-is with and without checks. Each is the median of N runs (3), or one run of 5 seconds or more. Without checks the example prints the same
-lines, which nothing has checked then. Then the designs for which cadical takes no longer than `bmc3`, and the means over all and over these.
-Times below 10 ms count as 10 ms. A program is stopped after 60 seconds of processor time, which count as its time; a row where both the
-example and `bmc3` are stopped counts for nothing.
+For the designs of tests/designs, or these, up to STEP (50): the first step with a bad state, processor seconds of the example in C++, of
+it without its checks, of cadical about the last of these steps (`aigcheck clauses`), of aigprove with all its engines, and of ABC's
+`bmc3`, and what part of the last the example is with and without checks. Each is the median of N runs (3), or one run of 5 seconds or
+more. Without checks the example prints the same lines, which nothing has checked then. Then the designs for which cadical takes no longer
+than `bmc3`, and the means over all and over these. Times below 10 ms count as 10 ms. A program is stopped after 60 seconds of processor
+time, which count as its time; a row where both the example and `bmc3` are stopped counts for nothing.
 
 Needs g++ and libcadical-dev, and the library for C as tests/support/archive.py builds it, or in the folder that --library names."""
 from __future__ import annotations
 
 import os
 import pathlib
+import signal
 import statistics
 import subprocess
 import sys
@@ -21,11 +22,13 @@ from typing import NamedTuple
 
 from measuring import DESIGNS, heads, row, run
 
-from harness import CHECK, TESTS, TOP, new_folder, parser
+from harness import CHECK, PROVE, TESTS, TOP, new_folder, parser
 
 # The call that checks, and what takes its place.
 CHECKS, NOTHING = "require(steps.check_refuted(k, proof.text + \"0\\n\"));", ""
 LEAST, LONG, MOST = 0.01, 5, 60
+# How a program ends that takes longer.
+STOPPED = [-signal.SIGXCPU, -signal.SIGKILL]
 
 
 class Times(NamedTuple):
@@ -34,6 +37,7 @@ class Times(NamedTuple):
     checking: float
     plain: float
     solver: float
+    prove: float
     abc: float
 
     @property
@@ -60,8 +64,8 @@ def timed(words: Sequence[object], times: int, out: str | pathlib.Path = os.devn
     found = list[float]()
     while len(found) < times and max(found, default=0) < LONG:
         with open(out, "wb") as into:
-            _, seconds, _ = run(["prlimit", f"--cpu={MOST}", *words], into)
-        found.append(min(max(seconds, LEAST), MOST))
+            status, seconds, _ = run(["prlimit", f"--cpu={MOST}", *words], into)
+        found.append(MOST if status in STOPPED else min(max(seconds, LEAST), MOST))
     return statistics.median(found)
 
 
@@ -76,8 +80,9 @@ def measure(file: pathlib.Path, programs: Sequence[pathlib.Path], step: int, tim
         with clauses.open("wb") as into:
             run([CHECK, "clauses", file, last], into)
         solver = timed(["cadical", "-q", clauses], times)
+        prove = timed([PROVE, "-q", "--bound", step, file], times)
         abc = timed(["berkeley-abc", "-q", f"read_aiger {file}; logic; undc; strash; zero; fold; bmc3 -F {step + 1}"], times)
-    found = Times(checking, plain, solver, abc)
+    found = Times(checking, plain, solver, prove, abc)
     shown = (f">{MOST}" if it == MOST else f"{it:.2f}" for it in found)
     row(file.stem, last if lines else "none", *shown, *(f"{part:.2f}" for part in found.parts))
     return found
@@ -104,7 +109,8 @@ def main() -> None:
         if not given.library:
             subprocess.run([sys.executable, TESTS / "support" / "archive.py", folder], check=True)
         programs = [build(folder, library, "checking", text), build(folder, library, "plain", text.replace(CHECKS, NOTHING))]
-        heads("file", f"bad state up to {given.step}", "with checks", "without", "cadical", "bmc3", "with / bmc3", "without / bmc3")
+        columns = ["with checks", "without", "cadical", "aigprove", "bmc3", "with / bmc3", "without / bmc3"]
+        heads("file", f"bad state up to {given.step}", *columns)
         names = given.designs or sorted(path.stem for path in DESIGNS.glob("*.aig"))
         found = {name: measure(DESIGNS / f"{name}.aig", programs, given.step, given.times) for name in names}
     counted = {name: it for name, it in found.items() if it.counts}

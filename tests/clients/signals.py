@@ -1,4 +1,4 @@
-"""Checks what scripts of calls don't reach of the module aig: signals of two circuits, circuits
+"""Checks what scripts of calls don't reach of the package aig: signals of two circuits, circuits
 that are closed or used beside themselves, numbers that C can't be given, and names. All values are
 worked out by hand."""
 from __future__ import annotations

@@ -1,4 +1,4 @@
-"""Checks that several threads may use the same circuits of the module aig: that no call is lost,
+"""Checks that several threads may use the same circuits of the package aig: that no call is lost,
 and that calls on two circuits in either order don't wait for one another for ever."""
 from __future__ import annotations
 
