@@ -194,7 +194,7 @@ class Trial(Files):
 
 
 @pytest.mark.cadical
-@cases(100, 1000)
+@cases(110, 1000)
 @given(rng=choices())
 def test_bounded(folder: Path, checks: harness.Checks, rng: random.Random) -> None:
     """Aigcheck, cadical and a search agree on a random machine."""

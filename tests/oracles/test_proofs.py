@@ -117,7 +117,7 @@ class Trial(Files):
 
 
 @pytest.mark.cadical
-@cases(50, 350)
+@cases(55, 350)
 @given(rng=choices())
 def test_proofs(folder, checks, rng):
     """aigcheck takes the proofs of a random machine, and mangled ones where the checker here

@@ -24,7 +24,7 @@ from typing import Any
 
 import harness
 import pytest
-from harness import Checks, limit, limit_files, repeated, spelled
+from harness import Checks, limit, repeated, spelled
 from tables import FILES, TABLES, Row, by_row, wanted_of
 
 # The programs whose printed texts are cut.
@@ -145,10 +145,8 @@ class Answers:
         """Checks what is there of a printed text where there is room for less."""
         unwritten = f"{line.split()[0]}: write failed\n".encode()
         for room in range(len(printed)):
-            with open(self.folder / "printed", "wb") as out:
-                self.check(
-                    line, (1, b"", unwritten), place, stdout=out, preexec_fn=limit_files(room)
-                )
+            with open(self.folder / "printed", "wb") as out, harness.limited_files(room):
+                self.check(line, (1, b"", unwritten), place, stdout=out, restore_signals=False)
             held = (self.folder / "printed").read_bytes()
             assert held == printed[:room], f"{line}, room for {room}"
 

@@ -224,6 +224,19 @@ def limit_files(count: int, ignore: bool = True, most: int | None = None) -> Cal
     return before
 
 
+@contextlib.contextmanager
+def limited_files(count: int) -> Iterator[None]:
+    """Limits the size of files for programs that are started meanwhile. A write past that fails in
+    a program that is started with `restore_signals=False`, since Python ignores the signal. This is
+    faster than `limit_files`, for which the process of the tests is copied."""
+    before = resource.getrlimit(resource.RLIMIT_FSIZE)
+    resource.setrlimit(resource.RLIMIT_FSIZE, (count, before[1]))
+    try:
+        yield
+    finally:
+        resource.setrlimit(resource.RLIMIT_FSIZE, before)
+
+
 def shim(source: str, folder: pathlib.Path) -> pathlib.Path:
     """Builds a library from a C file in the folder tests, which LD_PRELOAD loads before the
     system's libraries, and returns its path. The compiler is $CC, cc, clang or gcc."""
