@@ -1,9 +1,9 @@
-"""Makes the calls on circuits in memory that scripts on standard input say, through the package aig,
-and prints how each ended.
+"""Makes the calls on circuits in memory that are described by scripts on standard input, through
+the package aig, and prints the result of each call.
 
-Scripts and what is printed are those of tests/circuits/driver.c; the room for an answer, which a
-line ends with, isn't looked at. In every second line operators on signals take the place of the
-calls that they stand for.
+The scripts and the output have the format of tests/circuits/driver.c, but the room for an answer at
+the end of a line is ignored. In every second line, operators on signals are used instead of the
+calls for which they stand.
 """
 from __future__ import annotations
 
