@@ -125,8 +125,10 @@ def main() -> None:
         fcntl.flock(held, fcntl.LOCK_EX)
         run(TOP / "lib" / "clients.py")
         build_once(out)
-        for name in BUILT if folder else []:
-            shutil.copy(out / name, folder / name)
+        if folder:
+            folder.mkdir(parents=True, exist_ok=True)
+            for name in BUILT:
+                shutil.copy(out / name, folder / name)
 
 
 if __name__ == "__main__":
