@@ -1,4 +1,4 @@
-"""Makes the calls on circuits in memory that scripts on standard input say, through the package aig,
+"""Makes the calls on circuits in memory that scripts on standard input say, by the package aig,
 and prints how each ended.
 
 Scripts and what is printed are those of tests/circuits/driver.c; the room for an answer, which a
