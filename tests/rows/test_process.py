@@ -99,7 +99,8 @@ NO_STEPS = ["", "x", "+1", "-1", "+0", "-0", "0x", "1.0", " 1", "\u0661", "42949
 
 
 def test_other_words_are_wrong(room: Room) -> None:
-    for words in [*WRONG, *(["cnf", "and.aag", k] for k in NO_STEPS)]:
+    steps: list[list[str | bytes]] = [["cnf", "and.aag", k] for k in NO_STEPS]
+    for words in WRONG + steps:
         room.ends(*words, status=2, err=harness.USAGE["aigtool"])
     room.has("and.aag")
 
