@@ -40,7 +40,7 @@ def choices_of(rng: Random) -> list[Any]:
 def test_shrinks() -> None:
     """A case that fails becomes the smallest, which is tried first in the next run."""
     tried: list[list[int]] = []
-    most = 500
+    most = 990
 
     @cases(100)
     @given(row=made(numbers))
@@ -48,17 +48,17 @@ def test_shrinks() -> None:
         tried.append(row)
         assert all(number < most for number in row), f"{row} has a large number"
 
-    with pytest.raises(AssertionError, match=r"^\[500\] has a large number"):
+    with pytest.raises(AssertionError, match=r"^\[990\] has a large number"):
         are_small()
     tried.clear()
-    with pytest.raises(AssertionError, match=r"^\[500\] has a large number"):
+    with pytest.raises(AssertionError, match=r"^\[990\] has a large number"):
         are_small()
-    assert tried[0] == [500]
+    assert tried[0] == [990]
     # Once the test is mended, it tries all cases.
     tried.clear()
     most = 1000
     are_small()
-    assert tried[0] == [500] and len(tried) > 100
+    assert tried[0] == [990] and len(tried) > 100
 
 
 def test_count(monkeypatch: pytest.MonkeyPatch) -> None:
@@ -125,6 +125,13 @@ def test_many_bits() -> None:
     # Such a case isn't kept.
     with pytest.raises(AssertionError, match="^not negative"):
         is_negative()
+
+
+def test_bits() -> None:
+    """Each number of so many bits is drawn."""
+    rng = Choices(Bits(1).draw)
+    for count in range(4):
+        assert {rng.getrandbits(count) for _ in range(200)} == set(range(1 << count))
 
 
 @pytest.mark.parametrize("seed", range(20))
