@@ -1208,7 +1208,8 @@ def test_one_reading(checks: Checks, folder: pathlib.Path) -> None:
     design = reader.read(files)
     fronts = [
         "read_rtlil FD0/0/source/design.v", "read_blif -wideports FD0/0/source/design1.v",
-        "formalff -clk2ff t:$dff", "verilog_defaults -push",
+        "formalff -clk2ff t:$dff c:* %co1 w:* %i i:* %u %co1:+[CLK] %d",
+        "setattr -unset keep a:replaced_by_gclk", "verilog_defaults -push",
         "verilog_defaults -add -ppdump -noautowire", "script FD0/0/source/design2.v",
         "verilog_defaults -pop",
         "read_verilog -ppdump -noautowire -formal -sv -I FD1 FD0/0/source/design3.v",
