@@ -1232,7 +1232,7 @@ def test_one_reading(checks: Checks, folder: pathlib.Path) -> None:
                 f"verilog_defaults -add {inner}",
                 f"read_verilog {words} -formal -sv -I BESIDE -I INCLUDE COPY3",
             ],
-            [given[4], given[7]],
+            [given[5], given[8]],
         )
         checks.wants(f"{words}: implicit nets", f"\n\n`default_nettype {end}\n".encode(), way.end)
     checks.wants("Verilog alone", {str(folder / "d.sv"): b"x"}, design.given())
