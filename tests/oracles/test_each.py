@@ -190,6 +190,7 @@ def asked(design, text, folder, words):
     words = [PROVE, "--each", *outs, *words, "design.v"]
     status, printed, said = harness.run(words, cwd=folder, timeout=600)
     printed = printed.decode()
+    again = rows(harness.shown_again(folder / "kept") or "")
     if not (folder / "out.json").exists():
         return status, {}, [f"status {status}: {printed} {said.decode()}"]
     given, line, unmet = rows(printed), printed.splitlines()[-1], design.of("unmet")
@@ -212,8 +213,7 @@ def asked(design, text, folder, words):
         status,
         given,
         faults
-        + ["check.sh doesn't show it"]
-        * (rows(harness.shown_again(folder / "kept") or "") != given),
+        + [f"check.sh shows {again}, and the table has {given}"] * (again != given),
     )
 
 
