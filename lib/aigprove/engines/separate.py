@@ -36,6 +36,8 @@ class PropertyPortfolio:
                  engines: Iterable[str] = ()) -> None:
         self.owner, self.answers = owner, answers
         self.evidence: Evidence | None = None
+        # One thread at a time records an answer, and none does once the evidence is complete.
+        self.lock, self.is_closed = threading.Lock(), False
         self.scope = Scope(owner.scheduler)
         checker = owner.checker.of(self.scope.task("main"))
         self.problem = Problem(quiet(owner.options, engines), source, checker, owner.above)
@@ -43,6 +45,7 @@ class PropertyPortfolio:
             self.problem.circuit, self.problem.header = circuit, circuit.header
         self.board = Board(owner.deadline, min(answer.steps for answer in answers))
         self.portfolio = Portfolio(self.problem, self.scope, self.board, self)
+        owner.add(self)
 
     def ask(self, seconds: float) -> bool:
         """Runs the engines for at most a number of seconds, and returns whether all have ended
@@ -60,6 +63,13 @@ class PropertyPortfolio:
         self.board.wake()
 
     def take(self, engine: str, answer: Answer) -> int | None:
+        """Records an answer and its evidence, and returns the exit status if it decides the
+        query. An answer that comes too late isn't recorded."""
+        with self.lock:
+            is_late = self.is_closed or self.owner.is_closed
+            return None if is_late else self.record(engine, answer)
+
+    def record(self, engine: str, answer: Answer) -> int | None:
         """Records an answer and its evidence, and returns the exit status if it decides the
         query."""
         if isinstance(answer, StepShown):
@@ -107,10 +117,13 @@ class PropertyPortfolio:
             self.evidence.shows(claim)
 
     def close(self) -> None:
-        """Completes its evidence folder."""
-        if self.evidence:
-            self.evidence.end()
-            self.evidence = None
+        """Completes its evidence folder. Nothing is recorded afterwards."""
+        with self.lock:
+            self.is_closed = True
+            if self.evidence:
+                self.evidence.end()
+                self.evidence = None
+        self.owner.discard(self)
 
 
 def quiet(options: Options, engines: Iterable[str]) -> Options:
@@ -134,7 +147,29 @@ class SeparateProperties:
         self.said: set[tuple[str, str]] = set()
         self.asked: dict[int, PropertyPortfolio] = {}
         self.over: set[int] = set()
+        # The portfolios whose evidence isn't complete, and whether no answer is recorded any more.
+        self.portfolios: set[PropertyPortfolio] = set()
+        self.is_closed = False
         self.sources = [source.one(answer.number, ABOVE) for answer in self.answers]
+
+    def add(self, portfolio: PropertyPortfolio) -> None:
+        """Adds a portfolio whose evidence isn't complete."""
+        with self.lock:
+            self.portfolios.add(portfolio)
+
+    def discard(self, portfolio: PropertyPortfolio) -> None:
+        """Removes a portfolio whose evidence is complete."""
+        with self.lock:
+            self.portfolios.discard(portfolio)
+
+    def close(self) -> None:
+        """Completes the evidence of all portfolios. No answer is recorded afterwards, although
+        threads may still have one when the time is over."""
+        self.is_closed = True
+        with self.lock:
+            left = list(self.portfolios)
+        for portfolio in left:
+            portfolio.close()
 
     def open(self) -> list[int]:
         """Returns the numbers of the undecided properties."""

@@ -109,9 +109,11 @@ class Table:
         except Stopped:
             pass
         except (KeyboardInterrupt, SystemExit):
+            self.close()
             self.print()
             raise
         with unlimited():
+            self.close()
             self.look_at_assumptions()
             self.print()
             self.write()
@@ -147,6 +149,11 @@ class Table:
             show_progress()
         for call in calls:
             call.result()
+
+    def close(self) -> None:
+        """Completes the evidence of the answers. No answer is recorded afterwards."""
+        for part in self.parts:
+            part.close()
 
     def look_at_assumptions(self) -> None:
         """Finds out whether the assumptions can be met, if there are some and a property holds."""
