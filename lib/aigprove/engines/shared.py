@@ -2,6 +2,7 @@
 
 ABC's pdr checks all undecided properties, for a second each, then for four, and so on. During its
 first run, the other engines check the whole file."""
+import contextlib
 import math
 import threading
 import time
@@ -133,12 +134,11 @@ class SharedProperties(SeparateProperties):
         """Has a trace to a property checked that a command of ABC found. Raises Fault if it is
         wrong."""
         number, (start, steps), name = item
-        portfolio = self.portfolio(number)
         trace, checker = Witness(0, start, steps), self.checker.of(self.pdr)
-        if not steps or not portfolio.problem.holds(checker, trace):
-            raise Fault.of("false_counterexample")
-        portfolio.take(name, RunFound([trace]))
-        portfolio.close()
+        with contextlib.closing(self.portfolio(number)) as portfolio:
+            if not steps or not portfolio.problem.holds(checker, trace):
+                raise Fault.of("false_counterexample")
+            portfolio.take(name, RunFound([trace]))
 
     def take_certificate(self, certificate: Sealed) -> None:
         """Has a certificate checked for all properties together, if all are undecided, and
@@ -152,12 +152,12 @@ class SharedProperties(SeparateProperties):
     def is_certified(self, portfolio: PropertyPortfolio, certificate: Sealed) -> bool:
         """Returns whether a certificate proves the properties of a portfolio."""
         job = Job(portfolio.problem, self.pdr, portfolio.board)
-        try:
-            Certificate(job, job.solver(), certificate).run()
-        except Fault:
-            return False
-        portfolio.portfolio.take(0)
-        portfolio.close()
+        with contextlib.closing(portfolio):
+            try:
+                Certificate(job, job.solver(), certificate).run()
+            except Fault:
+                return False
+            portfolio.portfolio.take(0)
         return True
 
     def together(self) -> None:
